@@ -1,3 +1,4 @@
 pub mod Classes
 pub mod Scans
 pub mod Tokens
+pub mod Faults

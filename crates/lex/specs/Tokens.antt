@@ -24,6 +24,10 @@ inDefinition = record { text = true; define = true; marks = false }
 abbrev pub inText : Mode
 inText = record { text = true; define = false; marks = false }
 
+-- between quote marks or not
+abbrev pub between : Mode → Bool → Mode
+between m b = record { text = m .text; define = m .define; marks = b }
+
 -- past a quote mark: "From a quote mark to the next or the end `\`, `//` and `/*` are plain bytes"
 abbrev pub turned : Mode → Mode
 turned m = record { text = m .text; define = m .define; marks = m .text && not (m .marks) }

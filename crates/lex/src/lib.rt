@@ -7,6 +7,8 @@ ghost use lib.ListN.{length};
 ghost use Rattle.lex.specs.Classes.{isWhite, isSpace, isStart, isDigit, isRun, isSign, isBase, isLegal, isSpan};
 ghost use Rattle.lex.specs.Scans.{scan, runEnd, spanEnd, stringEnd, blockEnd};
 ghost use Rattle.lex.specs.Tokens.{markBar, stringToken, slashToken, backslashToken, digitsToken, basedToken, escapedGrave, graveToken, signToken, tokenAt, escapedOr};
+ghost use Rattle.lex.specs.Tokens.{inFile, inDefinition, inText, between, isGap, isByte};
+ghost use Rattle.lex.specs.Faults.{faultOf, worseOf};
 ghost use Rattle.lex.specs.Tokens.{plain as plainToken, named as namedToken, scanned as scannedToken};
 use text::peek;
 
@@ -63,6 +65,12 @@ pub struct Token {
     pub from: usize,
     pub end: usize,
     pub bar: usize,
+}
+
+// A refusal and the place of the token that it bars; number 0: none.
+pub struct Fault {
+    pub number: usize,
+    pub place: usize,
 }
 
 // Where a scan ended, and the refusal found on the way, or 0.
@@ -427,4 +435,74 @@ pub fn token_at(s: &[u8], at: usize, m: Mode) -> Token
         return plain(DOLLAR, at, run(s, at + 1, 36), 0);
     }
     sign_token(s, at, m, b)
+}
+
+pub fn in_file() -> Mode
+    ensures { λ r. ⌜ r ≡ inFile ⌝ }
+{
+    Mode {
+        text: false,
+        define: false,
+        marks: false,
+    }
+}
+
+// A definition as it stands in its file, from a token on that stands between quote marks or not.
+pub fn in_definition(marks: bool) -> Mode
+    ensures { λ r. ⌜ r ≡ between inDefinition marks ⌝ }
+{
+    Mode {
+        text: true,
+        define: true,
+        marks,
+    }
+}
+
+// A stored text, from a token on that stands between quote marks or not.
+pub fn in_text(marks: bool) -> Mode
+    ensures { λ r. ⌜ r ≡ between inText marks ⌝ }
+{
+    Mode {
+        text: true,
+        define: false,
+        marks,
+    }
+}
+
+// Whether a token is spacing between words.
+pub fn is_gap(t: Token) -> bool
+    ensures { λ r. ⌜ r ≡ isGap t ⌝ }
+{
+    (t.kind == WHITE)
+        | ((t.kind == LINE_COMMENT) | ((t.kind == BLOCK_COMMENT) | (t.kind == CONTINUATION)))
+}
+
+// Whether a token is the one byte `b`.
+pub fn is_byte(s: &[u8], t: Token, b: u8) -> bool
+    ensures { λ r. ⌜ r ≡ isByte (now (s .entry)) b t ⌝ }
+{
+    (t.kind == BYTE) & (peek(s, t.at) == b)
+}
+
+// What bars a token.
+pub fn fault_of(t: Token) -> Fault
+    ensures { λ r. ⌜ r ≡ faultOf t ⌝ }
+{
+    Fault {
+        number: t.bar,
+        place: t.at,
+    }
+}
+
+// The one of two refusals that is given, where `f` stands left of `g`.
+pub fn worse(f: Fault, g: Fault) -> Fault
+    ensures { λ r. ⌜ r ≡ worseOf f g ⌝ }
+{
+    if g.number == 0 {
+        return f;
+    }
+    if f.number == 0 {
+        return g;
+    }
+    if g.number < f.number { g } else { f }
 }

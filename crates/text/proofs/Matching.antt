@@ -7,8 +7,8 @@ use Prim.Native.Nat.{ℕ, suc, _+_, _-_, _<_, _≤_}
 use native.Mathlib.Numerals.{add-one}
 use native.Mathlib.Omega.{arith}
 use lib.Dec.{eqb}
-use lib.ListN.{length, getD, take, drop, drop-of-length-le}
-use lib.Seq.{drop-cons, take-nil}
+use lib.ListN.{length, getD, take, drop, drop-of-length-le, length-drop}
+use lib.Seq.{drop-cons, take-nil, take-all}
 use borrow.Author.Tests.{eq-eqb, ne-eqb}
 use Rattle.text.specs.Bytes.{begins, same, holds, part}
 
@@ -67,6 +67,13 @@ part-none s i e h =
 
 pub part-out : (s : List ℕ) (i e : ℕ) → length s ≤ i → part s i e ≡ []
 part-out s i e h = rw (drop-of-length-le s h) (take-nil (e - i))
+
+-- a part that reaches past the text ends with it
+pub part-cut : (s : List ℕ) (i e : ℕ) → length s ≤ e → part s i e ≡ part s i (length s)
+part-cut s i e h =
+    let long : length (drop i s) ≤ e - i = omega (arith, length-drop i s) in
+    let just : length (drop i s) ≤ length s - i = omega (arith, length-drop i s) in
+    take-all (e - i) (drop i s) long ∙ sym (take-all (length s - i) (drop i s) just)
 
 pub holds-out : (b : ℕ) (s : List ℕ) (i e : ℕ) → length s ≤ i → holds b (part s i e) ≡ false
 unfolding holds

@@ -72,6 +72,23 @@ pub fn holds_in(s: &[u8], at: usize, end: usize, b: u8) -> bool
     false
 }
 
+// The part of `s` from `at` to before `end`, as far as it lies in `s`.
+pub fn part_of(s: &[u8], at: usize, end: usize) -> &[u8]
+    ensures { λ r. ⌜ now r ≡ part (now (s .entry)) at end ⌝ }
+{
+    if end <= at {
+        return &s[0..0];
+    }
+    if s.len() <= at {
+        return &s[0..0];
+    }
+    let n = s.len();
+    if n < end {
+        return &s[at..n];
+    }
+    &s[at..end]
+}
+
 // Byte order: the first byte that differs decides, and a string stands before what it begins.
 pub fn compare(a: &[u8], b: &[u8]) -> Order
     ensures { λ r. ⌜ r ≡ orderOf (now (a .entry)) (now (b .entry)) ⌝ }

@@ -1,0 +1,4 @@
+pub mod Names
+pub mod Words
+pub mod Include
+pub mod Forms

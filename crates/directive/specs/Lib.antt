@@ -1,4 +1,3 @@
-pub mod Names
 pub mod Words
 pub mod Include
 pub mod Forms

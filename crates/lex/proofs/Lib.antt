@@ -1,0 +1,5 @@
+pub mod Tests
+pub mod Progress
+pub mod Listing
+pub mod Computing
+pub mod Claims

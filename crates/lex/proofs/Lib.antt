@@ -1,3 +1,4 @@
+pub mod Scanning
 pub mod Tests
 pub mod Progress
 pub mod Listing

@@ -9,7 +9,7 @@ use native.Mathlib.Omega.{arith}
 use lib.Dec.{eqb}
 use lib.ListN.{length, getD, take, drop, drop-of-length-le, length-drop}
 use lib.Seq.{drop-cons, take-nil, take-all}
-use borrow.Author.Tests.{eq-eqb, ne-eqb}
+use borrow.Author.Tests.{eqb-true, eq-eqb, ne-eqb}
 use Rattle.text.specs.Bytes.{begins, same, holds, part}
 
 module _ (s w : List ℕ) (k i : ℕ) where
@@ -53,6 +53,23 @@ same-length (a ∷ s) (b ∷ w) h = go (eqb a b) (same-length s w (λ e. h (ap s
     go : (t : Bool) → same s w ≡ false → (t && same s w) ≡ false
     go true ih = ih
     go false ih = refl
+
+-- `same` is equality
+pub same-self : (w : List ℕ) → same w w ≡ true
+unfolding same
+same-self [] = refl
+same-self (b ∷ w) = rw (eq-eqb b b refl) (same-self w)
+
+pub same-equal : (s w : List ℕ) → same s w ≡ true → s ≡ w
+unfolding same
+same-equal [] [] e = refl
+same-equal [] (b ∷ w) e = cc
+same-equal (a ∷ s) [] e = cc
+same-equal (a ∷ s) (b ∷ w) e = go (eqb a b) (same-equal s w) refl e
+  where
+    go : (t : Bool) → (same s w ≡ true → s ≡ w) → eqb a b ≡ t → (t && same s w) ≡ true → a ∷ s ≡ b ∷ w
+    go true ih q h = let f = eqb-true a b q in let g = ih h in cc
+    go false ih q h = cc
 
 -- the part from i on: its first byte, and the part past it
 pub part-more : (s : List ℕ) (i e : ℕ) → i < e → i < length s → part s i e ≡ getD s i 0 ∷ part s (i + 1) e

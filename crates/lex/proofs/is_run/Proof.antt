@@ -1,10 +1,8 @@
+-- `lex::is_run` meets its contract. What it calls gives its parts.
+-- Assumes nothing.
 use borrow.Author.Needs.{needs}
 use Rattle.lex.proofs.is_run.Statement.{statement}
 use Rattle.lex.proofs.is_run.Tie as tie
-use Rattle.lex.proofs.is_run.Reads as reads
-use Rattle.lex.proofs.is_run.Lts as lts
-use Rattle.lex.proofs.is_digit.Reads as is-digit-reads
-use Rattle.lex.proofs.is_start.Reads as is-start-reads
 
 is-start-requires : tie.Need-is-start-requires
 is-start-requires c κs = search needs
@@ -13,7 +11,7 @@ is-digit-requires : tie.Need-is-digit-requires
 is-digit-requires c κs = search needs
 
 returns : tie.Need-returns
-returns c = ?
+returns c = rw (c .before .is-start .ensures, c .is-digit .ensures)
 
 pub is-run-spec : {M : Type 1} → statement M
 is-run-spec = tie.close (tie.spec is-start-requires is-digit-requires returns)

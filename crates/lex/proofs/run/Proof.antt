@@ -1,38 +1,43 @@
+-- `lex::run` meets its contract. The invariant: the run from `i` ends where the run from `at` does.
+-- Assumes nothing.
+use mathlib.Core.Path.{_≡_, refl, sym, _∙_}
+use Prim.Native.Nat.{_-_}
+use lib.ListN.{length}
+use borrow.Author.Needs.{needs}
+use Rattle.lex.specs.Scans.{runEnd}
+use Rattle.lex.proofs.Scanning.{run-stop, run-more, run-out}
 use Rattle.lex.proofs.run.Statement.{statement}
 use Rattle.lex.proofs.run.Tie as tie
-use Rattle.lex.proofs.run.Reads as reads
-use Rattle.lex.proofs.run.Lts as lts
-use Rattle.lex.proofs.is_run.Reads as is-run-reads
 
 abbrev Inv-loop : tie.InvT-loop
-Inv-loop s at more i₀ i = ?
+Inv-loop s at more i₀ i = runEnd more s i ≡ runEnd more s at
 
 abbrev μ-loop : tie.MeasureT-loop
-μ-loop s at more i₀ i = ?
+μ-loop s at more i₀ i = length s - i
 
 loop-holds : tie.Need-loop-holds Inv-loop μ-loop
-loop-holds c = ?
+loop-holds c = refl
 
 shared-slice-read-is-run : tie.Need-shared-slice-read-is-run Inv-loop μ-loop
-shared-slice-read-is-run c = ?
+shared-slice-read-is-run c = search needs
 
 is-run-requires : tie.Need-is-run-requires Inv-loop μ-loop
-is-run-requires c κs = ?
+is-run-requires c κs = search needs
 
 returns : tie.Need-returns Inv-loop μ-loop
-returns c = ?
+returns c = sym (run-stop _ _ _ (c .before .before .before .loop-test .taken) (c .before .is-run .ensures) (c .if1 .taken)) ∙ c .before .before .before .before .loop .inv
 
 add-i : tie.Need-add-i Inv-loop μ-loop
-add-i c = ?
+add-i c = search needs
 
 loop-less : tie.Need-loop-less Inv-loop μ-loop
-loop-less c = ?
+loop-less c = search needs
 
 loop-again : tie.Need-loop-again Inv-loop μ-loop
-loop-again c = ?
+loop-again c = sym (run-more _ _ _ (c .before .before .before .loop-test .taken) (c .before .is-run .ensures) (c .if1 .left)) ∙ c .before .before .before .before .loop .inv
 
 returns-2 : tie.Need-returns-2 Inv-loop μ-loop
-returns-2 c = ?
+returns-2 c = sym (run-out _ _ _ (c .loop-test .left)) ∙ c .before .loop .inv
 
 pub run-spec : {M : Type 1} → statement M
 run-spec =

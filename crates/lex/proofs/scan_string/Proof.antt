@@ -1,66 +1,71 @@
+-- `lex::scan_string` meets its contract. The invariant: the scan from `i`, with whether the byte is escaped and the legality so far, is the scan from `at`.
+-- Assumes nothing.
+use mathlib.Core.Path.{_≡_, refl, sym, _∙_}
+use Prim.Native.Nat.{_-_}
+use lib.ListN.{length, drop}
+use borrow.Author.Needs.{needs}
+use Rattle.lex.specs.Scans.{stringFrom, stringEnd}
+use Rattle.lex.proofs.Scanning.{string-escaped, string-close, string-newline, string-more, string-out}
 use Rattle.lex.proofs.scan_string.Statement.{statement}
 use Rattle.lex.proofs.scan_string.Tie as tie
-use Rattle.lex.proofs.scan_string.Reads as reads
-use Rattle.lex.proofs.scan_string.Lts as lts
-use Rattle.lex.proofs.is_legal.Reads as is-legal-reads
-use Rattle.lex.proofs.scan_at.Reads as scan-at-reads
 
 abbrev Inv-loop : tie.InvT-loop
-Inv-loop s at i₀ escaped₀ ok₀ i escaped ok = ?
+Inv-loop s at i₀ escaped₀ ok₀ i escaped ok = stringFrom escaped ok i (drop i s) ≡ stringEnd s at
 
 abbrev μ-loop : tie.MeasureT-loop
-μ-loop s at i₀ escaped₀ ok₀ i escaped ok = ?
+μ-loop s at i₀ escaped₀ ok₀ i escaped ok = length s - i
 
 loop-holds : tie.Need-loop-holds Inv-loop μ-loop
-loop-holds c = ?
+unfolding stringEnd
+loop-holds c = refl
 
 shared-slice-read-b : tie.Need-shared-slice-read-b Inv-loop μ-loop
-shared-slice-read-b c = ?
+shared-slice-read-b c = search needs
 
 is-legal-requires : tie.Need-is-legal-requires Inv-loop μ-loop
-is-legal-requires c κs = ?
+is-legal-requires c κs = search needs
 
 add-i : tie.Need-add-i Inv-loop μ-loop
-add-i c = ?
+add-i c = search needs
 
 loop-less : tie.Need-loop-less Inv-loop μ-loop
-loop-less c = ?
+loop-less c = search needs
 
 loop-again : tie.Need-loop-again Inv-loop μ-loop
-loop-again c = ?
+loop-again c = sym (string-escaped _ _ _ _ (c .before .before .before .loop-test .taken) (c .before .if1 .taken) (c .is-legal .ensures)) ∙ c .before .before .before .before .loop .inv
 
 add-scan-at : tie.Need-add-scan-at Inv-loop μ-loop
-add-scan-at c = ?
+add-scan-at c = search needs
 
 scan-at-requires : tie.Need-scan-at-requires Inv-loop μ-loop
-scan-at-requires c κs = ?
+scan-at-requires c κs = search needs
 
 returns : tie.Need-returns Inv-loop μ-loop
-returns c = ?
+returns c = c .scan-at .ensures ∙ (sym (string-close _ _ _ _ (c .before .before .before .before .loop-test .taken) (c .before .before .if1 .left) (c .before .if2 .taken)) ∙ c .before .before .before .before .before .loop .inv)
 
 scan-at-requires-2 : tie.Need-scan-at-requires-2 Inv-loop μ-loop
-scan-at-requires-2 c κs = ?
+scan-at-requires-2 c κs = search needs
 
 returns-2 : tie.Need-returns-2 Inv-loop μ-loop
-returns-2 c = ?
+returns-2 c = c .scan-at2 .ensures ∙ (sym (string-newline _ _ _ _ (c .before .before .before .before .before .loop-test .taken) (c .before .before .before .if1 .left) (c .before .before .if2 .left) (c .before .if3 .taken)) ∙ c .before .before .before .before .before .before .loop .inv)
 
 is-legal-requires-2 : tie.Need-is-legal-requires-2 Inv-loop μ-loop
-is-legal-requires-2 c κs = ?
+is-legal-requires-2 c κs = search needs
 
 add-i-2 : tie.Need-add-i-2 Inv-loop μ-loop
-add-i-2 c = ?
+add-i-2 c = search needs
 
 loop-less-2 : tie.Need-loop-less-2 Inv-loop μ-loop
-loop-less-2 c = ?
+loop-less-2 c = search needs
 
 loop-again-2 : tie.Need-loop-again-2 Inv-loop μ-loop
-loop-again-2 c = ?
+loop-again-2 c = sym (string-more _ _ _ _ (c .before .before .before .before .before .loop-test .taken) (c .before .before .before .if1 .left) (c .before .before .if2 .left) (c .before .if3 .left) (c .is-legal2 .ensures)) ∙ c .before .before .before .before .before .before .loop .inv
 
 scan-at-requires-3 : tie.Need-scan-at-requires-3 Inv-loop μ-loop
-scan-at-requires-3 c κs = ?
+scan-at-requires-3 c κs = search needs
 
 returns-3 : tie.Need-returns-3 Inv-loop μ-loop
-returns-3 c = ?
+returns-3 c = c .scan-at3 .ensures ∙ (sym (string-out _ _ _ _ (c .before .loop-test .left)) ∙ c .before .before .loop .inv)
 
 pub scan-string-spec : {M : Type 1} → statement M
 scan-string-spec =

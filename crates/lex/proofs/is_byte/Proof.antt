@@ -1,0 +1,15 @@
+use borrow.Author.Needs.{needs}
+use Rattle.lex.proofs.is_byte.Statement.{statement}
+use Rattle.lex.proofs.is_byte.Tie as tie
+use Rattle.lex.proofs.is_byte.Reads as reads
+use Rattle.lex.proofs.is_byte.Lts as lts
+use Rattle.text.proofs.peek.Reads as peek-reads
+
+peek-requires : tie.Need-peek-requires
+peek-requires c κs = search needs
+
+returns : tie.Need-returns
+returns c = rw (c .peek .ensures)
+
+pub is-byte-spec : {M : Type 1} → statement M
+is-byte-spec = tie.close (tie.spec peek-requires returns)

@@ -1,0 +1,252 @@
+// What is stored of a macro's text or of a default, written into lent bytes, and what makes it bad (document 01, "Macros").
+ghost use mathlib.Core.Path.{_≡_};
+ghost use Prim.Native.Nat.{_≤_};
+ghost use lib.ListN.{length};
+ghost use mathlib.Core.List.{[], _∷_};
+ghost use Rattle.text.specs.Bytes.{part};
+ghost use Rattle.storing.specs.Stored.{joinedFrom, piece, stored};
+ghost use Rattle.storing.specs.Judging.{badText, hasGrave, badDefault};
+ghost use Rattle.storing.specs.Writing.{AddedBy, StoredBy};
+use lex::{BLOCK_COMMENT, CONTINUATION, GRAVE, LINE_COMMENT, NEWLINE, QUOTE, STRING};
+use lex::{Token, in_definition, in_file, in_text, is_space, token_at};
+use names::directive_of;
+use text::{holds_in, part_of};
+
+// How far a buffer is filled now, or that it has no room.
+pub enum Stored {
+    Upto(usize),
+    Short,
+}
+
+// Adds a byte behind the first `n`; none that is white space where nothing stands behind `from` yet.
+fn put_byte(out: &mut [u8], from: usize, n: usize, b: u8) -> Stored
+    requires { ⌜ (from ≤ n) × (n ≤ length (now out)) ⌝ }
+    ensures { λ r. ⌜ AddedBy r (now (out .entry)) (now (out .exit)) from n (b ∷ []) ⌝ }
+{
+    if (n == from) & is_space(b) {
+        return Stored::Upto(n);
+    }
+    if out.len() <= n {
+        return Stored::Short;
+    }
+    out[n] = b;
+    Stored::Upto(n + 1)
+}
+
+// Adds the bytes of `s` from `at` to before `end`.
+pub fn put_bytes(s: &[u8], at: usize, end: usize, out: &mut [u8], from: usize, n: usize) -> Stored
+    requires { ⌜ (from ≤ n) × (n ≤ length (now out)) ⌝ }
+    ensures { λ r. ⌜ AddedBy r (now (out .entry)) (now (out .exit)) from n (part (now (s .entry)) at end) ⌝ }
+{
+    let mut i = at;
+    let mut k = n;
+    while i < end {
+        if s.len() <= i {
+            return Stored::Upto(k);
+        }
+        let r = put_byte(out, from, k, s[i]);
+        match r {
+            Stored::Upto(m) => {
+                k = m;
+                i += 1;
+                continue;
+            }
+            Stored::Short => {
+                return Stored::Short;
+            }
+        }
+    }
+    Stored::Upto(k)
+}
+
+// Adds the two bytes of an escape, `\` and `b`, or nothing where it is a `\` before a newline.
+fn put_escape(out: &mut [u8], from: usize, n: usize, b: u8) -> Stored
+    requires { ⌜ (from ≤ n) × (n ≤ length (now out)) ⌝ }
+    ensures { λ r. ⌜ AddedBy r (now (out .entry)) (now (out .exit)) from n (joinedFrom true (b ∷ [])) ⌝ }
+{
+    if b == 10 {
+        return Stored::Upto(n);
+    }
+    let r = put_byte(out, from, n, 92);
+    match r {
+        Stored::Upto(m) => put_byte(out, from, m, b),
+        Stored::Short => Stored::Short,
+    }
+}
+
+// Adds a string's bytes without each `\` before a newline.
+fn put_joined(s: &[u8], at: usize, end: usize, out: &mut [u8], from: usize, n: usize) -> Stored
+    requires { ⌜ (from ≤ n) × (n ≤ length (now out)) ⌝ }
+    ensures { λ r. ⌜ AddedBy r (now (out .entry)) (now (out .exit)) from n (joinedFrom false (part (now (s .entry)) at end)) ⌝ }
+{
+    let mut i = at;
+    let mut k = n;
+    let mut escaped = false;
+    while i < end {
+        if s.len() <= i {
+            break;
+        }
+        let b = s[i];
+        if escaped {
+            let r = put_escape(out, from, k, b);
+            match r {
+                Stored::Upto(m) => {
+                    k = m;
+                    escaped = false;
+                    i += 1;
+                    continue;
+                }
+                Stored::Short => {
+                    return Stored::Short;
+                }
+            }
+        }
+        if b == 92 {
+            escaped = true;
+            i += 1;
+            continue;
+        }
+        let r = put_byte(out, from, k, b);
+        match r {
+            Stored::Upto(m) => {
+                k = m;
+                i += 1;
+                continue;
+            }
+            Stored::Short => {
+                return Stored::Short;
+            }
+        }
+    }
+    if escaped {
+        return put_byte(out, from, k, 92);
+    }
+    Stored::Upto(k)
+}
+
+// Adds what is stored of a token that stands between quote marks or not.
+fn put_piece(s: &[u8], t: Token, marks: bool, out: &mut [u8], from: usize, n: usize) -> Stored
+    requires { ⌜ (from ≤ n) × (n ≤ length (now out)) ⌝ }
+    ensures { λ r. ⌜ AddedBy r (now (out .entry)) (now (out .exit)) from n (piece (now (s .entry)) marks t) ⌝ }
+{
+    if (t.kind == LINE_COMMENT) | (t.kind == BLOCK_COMMENT) {
+        return put_byte(out, from, n, 32);
+    }
+    if t.kind == CONTINUATION {
+        if marks {
+            return Stored::Upto(n);
+        }
+        return put_byte(out, from, n, 10);
+    }
+    if t.kind == STRING {
+        return put_joined(s, t.at, t.end, out, from, n);
+    }
+    put_bytes(s, t.at, t.end, out, from, n)
+}
+
+// The end of what is stored from `from` to before `n`, without white space at its end.
+fn trim_end(out: &[u8], from: usize, n: usize) -> usize
+    requires { ⌜ (from ≤ n) × (n ≤ length (now out)) ⌝ }
+    ensures { λ r. ⌜ Trimmed (now (out .entry)) from n r ⌝ }
+{
+    let mut k = n;
+    while from < k {
+        if !is_space(out[k - 1]) {
+            return k;
+        }
+        k -= 1;
+    }
+    k
+}
+
+// Stores the text of a definition from `at` to before `end` behind the first `from` bytes.
+pub fn store_text(s: &[u8], at: usize, end: usize, out: &mut [u8], from: usize) -> Stored
+    requires { ⌜ from ≤ length (now out) ⌝ }
+    ensures { λ r. ⌜ StoredBy r (now (s .entry)) at end (now (out .entry)) (now (out .exit)) from ⌝ }
+{
+    let mut i = at;
+    let mut k = from;
+    let mut marks = false;
+    while i < end {
+        let t = token_at(s, i, in_definition(marks));
+        if (s.len() <= i) | (t.kind == NEWLINE) {
+            break;
+        }
+        let r = put_piece(s, t, marks, out, from, k);
+        match r {
+            Stored::Upto(m) => {
+                k = m;
+                marks = marks != (t.kind == QUOTE);
+                i = t.end;
+                continue;
+            }
+            Stored::Short => {
+                return Stored::Short;
+            }
+        }
+    }
+    Stored::Upto(trim_end(out, from, k))
+}
+
+// Whether a stored text is bad.
+pub fn text_is_bad(w: &[u8]) -> bool
+    ensures { λ r. ⌜ r ≡ badText (now (w .entry)) ⌝ }
+{
+    let mut i = 0;
+    let mut marks = false;
+    while i < w.len() {
+        let t = token_at(w, i, in_text(marks));
+        if t.bar != 0 {
+            return true;
+        }
+        if t.kind == GRAVE {
+            if 2 < directive_of(part_of(w, t.from, t.end)) {
+                return true;
+            }
+            i = t.end;
+            continue;
+        }
+        marks = marks != (t.kind == QUOTE);
+        i = t.end;
+    }
+    marks
+}
+
+// Whether a stored default is bad.
+pub fn default_is_bad(w: &[u8]) -> bool
+    ensures { λ r. ⌜ r ≡ badDefault (now (w .entry)) ⌝ }
+{
+    let mut i = 0;
+    while i < w.len() {
+        let t = token_at(w, i, in_file());
+        if t.bar != 0 {
+            return true;
+        }
+        i = t.end;
+    }
+    false
+}
+
+// Whether a default as it stands from `at` to before `end` has a grave accent outside strings and comments.
+pub fn has_grave(s: &[u8], at: usize, end: usize) -> bool
+    ensures { λ r. ⌜ r ≡ hasGrave (now (s .entry)) at end ⌝ }
+{
+    let mut i = at;
+    let mut marks = false;
+    while i < end {
+        let t = token_at(s, i, in_definition(marks));
+        if (s.len() <= i) | (t.kind == NEWLINE) {
+            return false;
+        }
+        if free_of_graves(t) {
+            i = t.end;
+            continue;
+        }
+        if holds_in(s, t.at, t.end, 96) {
+            return true;
+        }
+        marks = marks != (t.kind == QUOTE);
+        i = t.end;
+    }
+    false
+}

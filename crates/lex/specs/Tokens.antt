@@ -192,6 +192,10 @@ isByte s b t = is Byte t && eqb (getD s (t .at) 0) b
 abbrev pub isGap : Token → Bool
 isGap t = is White t || (is LineComment t || (is BlockComment t || is Continuation t))
 
+-- in macro text: whether what stands past a token is between quote marks
+abbrev pub marksAfter : Bool → Token → Bool
+marksAfter b t = cond (is Quote t) (not b) b
+
 -- the mode past a token
 abbrev pub modeAfter : Mode → Token → Mode
 modeAfter m t = cond (is Quote t) (turned m) m

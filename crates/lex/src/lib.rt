@@ -7,7 +7,7 @@ ghost use lib.ListN.{length};
 ghost use Rattle.lex.specs.Classes.{isWhite, isSpace, isStart, isDigit, isRun, isSign, isBase, isLegal, isSpan};
 ghost use Rattle.lex.specs.Scans.{scan, runEnd, spanEnd, stringEnd, blockEnd};
 ghost use Rattle.lex.specs.Tokens.{markBar, stringToken, slashToken, backslashToken, digitsToken, basedToken, escapedGrave, graveToken, signToken, tokenAt, escapedOr};
-ghost use Rattle.lex.specs.Tokens.{inFile, inDefinition, inText, between, isGap, isByte};
+ghost use Rattle.lex.specs.Tokens.{inFile, inDefinition, inText, between, isGap, isByte, marksAfter};
 ghost use Rattle.lex.specs.Faults.{faultOf, worseOf};
 ghost use Rattle.lex.specs.Tokens.{plain as plainToken, named as namedToken, scanned as scannedToken};
 use text::peek;
@@ -505,4 +505,11 @@ pub fn worse(f: Fault, g: Fault) -> Fault
         return g;
     }
     if g.number < f.number { g } else { f }
+}
+
+// Whether what stands past the token `t` is between quote marks.
+pub fn marks_after(marks: bool, t: Token) -> bool
+    ensures { λ r. ⌜ r ≡ marksAfter marks t ⌝ }
+{
+    if t.kind == QUOTE { !marks } else { marks }
 }

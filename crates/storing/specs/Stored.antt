@@ -1,22 +1,26 @@
 -- What is stored of a macro's text or of a default (01, "Macros").
 -- Assumes nothing.
 use Prim.Native.Nat.{ℕ}
-use mathlib.Core.Bool.{Bool, true, false, cond, not, _||_}
+use mathlib.Core.Bool.{Bool, true, false, cond, not, _&&_, _||_}
 use mathlib.Core.List.{List, [], _∷_, _++_}
 use lib.Dec.{eqb, ltb}
 use Rattle.text.specs.Bytes.{part}
 use Rattle.lex.specs.Classes.{isSpace}
-use Rattle.lex.specs.Tokens.{inDefinition, LineComment, BlockComment, String, Quote, Continuation, is, tokens}
+use Rattle.lex.specs.Tokens.{inDefinition, LineComment, BlockComment, String, Continuation, is, marksAfter, tokens}
 use Rattle.lex.specs.declared.Token.{Token}
 
--- a string's bytes without each `\`newline; `esc`: the byte before is an unescaped `\`, not yet given out
+-- what an escape, `\` and x, gives: nothing if it is `\`newline
+abbrev pub escapeOf : ℕ → List ℕ
+escapeOf x = cond (eqb x 10) [] (92 ∷ x ∷ [])
+
+-- what byte x of a string gives; `esc`: the byte before is an unescaped `\`, not yet given out
+abbrev pub given : Bool → ℕ → List ℕ
+given esc x = cond esc (escapeOf x) (cond (eqb x 92) [] (x ∷ []))
+
+-- a string's bytes without each `\`newline
 unfoldable pub joinedFrom : Bool → List ℕ → List ℕ
-joinedFrom true [] = 92 ∷ []
-joinedFrom false [] = []
-joinedFrom true (x ∷ xs) =
-    let r = joinedFrom false xs in
-    cond (eqb x 10) r (92 ∷ x ∷ r)
-joinedFrom false (x ∷ xs) = cond (eqb x 92) (joinedFrom true xs) (x ∷ joinedFrom false xs)
+joinedFrom esc [] = cond esc (92 ∷ []) []
+joinedFrom esc (x ∷ xs) = given esc x ++ joinedFrom (not esc && eqb x 92) xs
 
 -- "each comment becomes one space, `\`newline a newline (nothing inside a string or between quote marks)";
 -- b: between quote marks
@@ -31,7 +35,7 @@ piece s b t =
 unfoldable pub pieces : List ℕ → ℕ → Bool → List Token → List ℕ
 pieces s x b [] = []
 pieces s x b (t ∷ ts) =
-    let r = pieces s x (cond (is Quote t) (not b) b) ts in
+    let r = pieces s x (marksAfter b t) ts in
     cond (ltb (t .at) x) (piece s b t ++ r) []
 
 -- "white space and newlines at both ends dropped"

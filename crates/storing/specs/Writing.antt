@@ -6,7 +6,8 @@ use mathlib.Core.Path.{_≡_}
 use mathlib.Core.List.{List, _++_}
 use lib.Dec.{eqb}
 use lib.ListN.{length, take}
-use Rattle.storing.specs.Stored.{trimLeft, stored}
+use Rattle.text.specs.Bytes.{part}
+use Rattle.storing.specs.Stored.{trimLeft, trimRight, stored}
 use Rattle.storing.specs.declared.Stored.{Stored}
 use Rattle.storing.specs.declared.Stored.the-variants.{Upto, Short}
 
@@ -25,6 +26,12 @@ pub record Added (o o′ : List ℕ) (from n m : ℕ) (ys : List ℕ) : Type 0 w
 abbrev pub AddedBy : Stored → List ℕ → List ℕ → ℕ → ℕ → List ℕ → Type 0
 AddedBy (Upto m) o o′ from n ys = Added o o′ from n m ys
 AddedBy Short o o′ from n ys = length o < n + length ys
+
+-- o from `from` to before n, without white space at its end, ends at r
+pub record Trimmed (o : List ℕ) (from n r : ℕ) : Type 0 where
+  pub past : from ≤ r
+  pub within : r ≤ n
+  pub bytes : part o from r ≡ trimRight (part o from n)
 
 -- the text from i to before x is stored behind the first `from` bytes, up to m
 pub record StoredAt (s : List ℕ) (i x : ℕ) (o o′ : List ℕ) (from m : ℕ) : Type 0 where

@@ -2,15 +2,28 @@
 ghost use mathlib.Core.Path.{_≡_};
 ghost use Prim.Native.Nat.{_≤_};
 ghost use lib.ListN.{length};
+ghost use mathlib.Core.Bool.{false};
 ghost use mathlib.Core.List.{[], _∷_};
 ghost use Rattle.text.specs.Bytes.{part};
-ghost use Rattle.storing.specs.Stored.{joinedFrom, piece, stored};
-ghost use Rattle.storing.specs.Judging.{badText, hasGrave, badDefault};
-ghost use Rattle.storing.specs.Writing.{AddedBy, StoredBy};
-use lex::{BLOCK_COMMENT, CONTINUATION, GRAVE, LINE_COMMENT, NEWLINE, QUOTE, STRING};
-use lex::{Token, in_definition, in_file, in_text, is_space, token_at};
+ghost use Rattle.storing.specs.Stored.{joinedFrom, escapeOf, given, piece};
+ghost use Rattle.storing.specs.Judging.{barredGrave, badText, isFree, hasGrave, badDefault};
+ghost use Rattle.storing.specs.Writing.{AddedBy, Trimmed, StoredBy};
+use lex::BLOCK_COMMENT;
+use lex::CONTINUATION;
+use lex::GRAVE;
+use lex::LINE_COMMENT;
+use lex::NEWLINE;
+use lex::STRING;
+use lex::Token;
+use lex::in_definition;
+use lex::in_file;
+use lex::in_text;
+use lex::is_space;
+use lex::marks_after;
+use lex::token_at;
 use names::directive_of;
-use text::{holds_in, part_of};
+use text::holds_in;
+use text::part_of;
 
 // How far a buffer is filled now, or that it has no room.
 pub enum Stored {
@@ -62,7 +75,7 @@ pub fn put_bytes(s: &[u8], at: usize, end: usize, out: &mut [u8], from: usize, n
 // Adds the two bytes of an escape, `\` and `b`, or nothing where it is a `\` before a newline.
 fn put_escape(out: &mut [u8], from: usize, n: usize, b: u8) -> Stored
     requires { ⌜ (from ≤ n) × (n ≤ length (now out)) ⌝ }
-    ensures { λ r. ⌜ AddedBy r (now (out .entry)) (now (out .exit)) from n (joinedFrom true (b ∷ [])) ⌝ }
+    ensures { λ r. ⌜ AddedBy r (now (out .entry)) (now (out .exit)) from n (escapeOf b) ⌝ }
 {
     if b == 10 {
         return Stored::Upto(n);
@@ -72,6 +85,31 @@ fn put_escape(out: &mut [u8], from: usize, n: usize, b: u8) -> Stored
         Stored::Upto(m) => put_byte(out, from, m, b),
         Stored::Short => Stored::Short,
     }
+}
+
+// Adds what byte `b` of a string gives: nothing yet for an unescaped `\`, which the next byte decides on.
+fn put_string_byte(out: &mut [u8], from: usize, n: usize, escaped: bool, b: u8) -> Stored
+    requires { ⌜ (from ≤ n) × (n ≤ length (now out)) ⌝ }
+    ensures { λ r. ⌜ AddedBy r (now (out .entry)) (now (out .exit)) from n (given escaped b) ⌝ }
+{
+    if escaped {
+        return put_escape(out, from, n, b);
+    }
+    if b == 92 {
+        return Stored::Upto(n);
+    }
+    put_byte(out, from, n, b)
+}
+
+// Adds the `\` that a string ends with, where one is left over.
+fn put_rest(out: &mut [u8], from: usize, n: usize, escaped: bool) -> Stored
+    requires { ⌜ (from ≤ n) × (n ≤ length (now out)) ⌝ }
+    ensures { λ r. ⌜ AddedBy r (now (out .entry)) (now (out .exit)) from n (joinedFrom escaped []) ⌝ }
+{
+    if escaped {
+        return put_byte(out, from, n, 92);
+    }
+    Stored::Upto(n)
 }
 
 // Adds a string's bytes without each `\` before a newline.
@@ -84,32 +122,14 @@ fn put_joined(s: &[u8], at: usize, end: usize, out: &mut [u8], from: usize, n: u
     let mut escaped = false;
     while i < end {
         if s.len() <= i {
-            break;
+            return put_rest(out, from, k, escaped);
         }
         let b = s[i];
-        if escaped {
-            let r = put_escape(out, from, k, b);
-            match r {
-                Stored::Upto(m) => {
-                    k = m;
-                    escaped = false;
-                    i += 1;
-                    continue;
-                }
-                Stored::Short => {
-                    return Stored::Short;
-                }
-            }
-        }
-        if b == 92 {
-            escaped = true;
-            i += 1;
-            continue;
-        }
-        let r = put_byte(out, from, k, b);
+        let r = put_string_byte(out, from, k, escaped, b);
         match r {
             Stored::Upto(m) => {
                 k = m;
+                escaped = !escaped & (b == 92);
                 i += 1;
                 continue;
             }
@@ -118,10 +138,7 @@ fn put_joined(s: &[u8], at: usize, end: usize, out: &mut [u8], from: usize, n: u
             }
         }
     }
-    if escaped {
-        return put_byte(out, from, k, 92);
-    }
-    Stored::Upto(k)
+    put_rest(out, from, k, escaped)
 }
 
 // Adds what is stored of a token that stands between quote marks or not.
@@ -168,15 +185,18 @@ pub fn store_text(s: &[u8], at: usize, end: usize, out: &mut [u8], from: usize) 
     let mut k = from;
     let mut marks = false;
     while i < end {
+        if s.len() <= i {
+            return Stored::Upto(trim_end(out, from, k));
+        }
         let t = token_at(s, i, in_definition(marks));
-        if (s.len() <= i) | (t.kind == NEWLINE) {
-            break;
+        if t.kind == NEWLINE {
+            return Stored::Upto(trim_end(out, from, k));
         }
         let r = put_piece(s, t, marks, out, from, k);
         match r {
             Stored::Upto(m) => {
                 k = m;
-                marks = marks != (t.kind == QUOTE);
+                marks = marks_after(marks, t);
                 i = t.end;
                 continue;
             }
@@ -188,6 +208,16 @@ pub fn store_text(s: &[u8], at: usize, end: usize, out: &mut [u8], from: usize) 
     Stored::Upto(trim_end(out, from, k))
 }
 
+// Whether a token is a grave accent with a directive's name, the two `__` words excepted.
+fn is_barred_grave(w: &[u8], t: Token) -> bool
+    ensures { λ r. ⌜ r ≡ barredGrave (now (w .entry)) t ⌝ }
+{
+    if t.kind != GRAVE {
+        return false;
+    }
+    2 < directive_of(part_of(w, t.from, t.end))
+}
+
 // Whether a stored text is bad.
 pub fn text_is_bad(w: &[u8]) -> bool
     ensures { λ r. ⌜ r ≡ badText (now (w .entry)) ⌝ }
@@ -196,17 +226,10 @@ pub fn text_is_bad(w: &[u8]) -> bool
     let mut marks = false;
     while i < w.len() {
         let t = token_at(w, i, in_text(marks));
-        if t.bar != 0 {
+        if (t.bar != 0) | is_barred_grave(w, t) {
             return true;
         }
-        if t.kind == GRAVE {
-            if 2 < directive_of(part_of(w, t.from, t.end)) {
-                return true;
-            }
-            i = t.end;
-            continue;
-        }
-        marks = marks != (t.kind == QUOTE);
+        marks = marks_after(marks, t);
         i = t.end;
     }
     marks
@@ -227,6 +250,13 @@ pub fn default_is_bad(w: &[u8]) -> bool
     false
 }
 
+// Whether a token is a string or a comment.
+fn is_free(t: Token) -> bool
+    ensures { λ r. ⌜ r ≡ isFree t ⌝ }
+{
+    (t.kind == STRING) | ((t.kind == LINE_COMMENT) | (t.kind == BLOCK_COMMENT))
+}
+
 // Whether a default as it stands from `at` to before `end` has a grave accent outside strings and comments.
 pub fn has_grave(s: &[u8], at: usize, end: usize) -> bool
     ensures { λ r. ⌜ r ≡ hasGrave (now (s .entry)) at end ⌝ }
@@ -234,18 +264,17 @@ pub fn has_grave(s: &[u8], at: usize, end: usize) -> bool
     let mut i = at;
     let mut marks = false;
     while i < end {
-        let t = token_at(s, i, in_definition(marks));
-        if (s.len() <= i) | (t.kind == NEWLINE) {
+        if s.len() <= i {
             return false;
         }
-        if free_of_graves(t) {
-            i = t.end;
-            continue;
+        let t = token_at(s, i, in_definition(marks));
+        if t.kind == NEWLINE {
+            return false;
         }
-        if holds_in(s, t.at, t.end, 96) {
+        if !is_free(t) & holds_in(s, t.at, t.end, 96) {
             return true;
         }
-        marks = marks != (t.kind == QUOTE);
+        marks = marks_after(marks, t);
         i = t.end;
     }
     false

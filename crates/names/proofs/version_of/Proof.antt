@@ -1,63 +1,19 @@
-use borrow.Author.Needs.{needs}
+-- `names::version_of` meets its contract. The tests on the way to each return are found by search.
+-- Assumes nothing.
+use mathlib.Core.Path.{refl}
+use Rattle.text.specs.Bytes.{bytes}
+use Rattle.names.specs.Names.{versionOf}
+use Rattle.names.proofs.Chains.{chain, number}
 use Rattle.names.proofs.version_of.Statement.{statement}
 use Rattle.names.proofs.version_of.Tie as tie
-use Rattle.names.proofs.version_of.Reads as reads
-use Rattle.names.proofs.version_of.Lts as lts
-use Rattle.text.proofs.same.Reads as same-reads
-
-slice-aggregate-same : tie.Need-slice-aggregate-same
-slice-aggregate-same c = search needs
-
-same-requires : tie.Need-same-requires
-same-requires c κs = search needs
-
-returns : tie.Need-returns
-returns c = ?
-
-slice-aggregate-same-2 : tie.Need-slice-aggregate-same-2
-slice-aggregate-same-2 c = search needs
-
-same-requires-2 : tie.Need-same-requires-2
-same-requires-2 c κs = search needs
-
-returns-2 : tie.Need-returns-2
-returns-2 c = ?
-
-slice-aggregate-same-3 : tie.Need-slice-aggregate-same-3
-slice-aggregate-same-3 c = search needs
-
-same-requires-3 : tie.Need-same-requires-3
-same-requires-3 c κs = search needs
-
-returns-3 : tie.Need-returns-3
-returns-3 c = ?
-
-slice-aggregate-same-4 : tie.Need-slice-aggregate-same-4
-slice-aggregate-same-4 c = search needs
-
-same-requires-4 : tie.Need-same-requires-4
-same-requires-4 c κs = search needs
-
-returns-4 : tie.Need-returns-4
-returns-4 c = ?
-
-returns-5 : tie.Need-returns-5
-returns-5 c = ?
 
 pub version-of-spec : {M : Type 1} → statement M
+unfolding bytes versionOf
 version-of-spec =
     tie.close
     (tie.spec
-    slice-aggregate-same
-    same-requires
-    returns
-    slice-aggregate-same-2
-    same-requires-2
-    returns-2
-    slice-aggregate-same-3
-    same-requires-3
-    returns-3
-    slice-aggregate-same-4
-    same-requires-4
-    returns-4
-    returns-5)
+    (λ c. refl) (λ c κs. tt) (λ c. number (search chain))
+    (λ c. refl) (λ c κs. tt) (λ c. number (search chain))
+    (λ c. refl) (λ c κs. tt) (λ c. number (search chain))
+    (λ c. refl) (λ c κs. tt) (λ c. number (search chain))
+    (λ c. number (search chain)))

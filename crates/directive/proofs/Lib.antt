@@ -1,0 +1,3 @@
+pub mod Wording
+pub mod Including
+pub mod Timing

@@ -1,0 +1,60 @@
+-- `directive::version_form` meets its contract. The definition branches as the code does.
+-- Assumes nothing.
+use borrow.Author.Tests.{eq-eqb, ne-eqb}
+use borrow.Author.Needs.{needs}
+use Rattle.directive.specs.Forms.{versionForm}
+use Rattle.directive.proofs.version_form.Statement.{statement}
+use Rattle.directive.proofs.version_form.Tie as tie
+
+word-at-requires : tie.Need-word-at-requires
+word-at-requires c κs = search needs
+
+enum-known-w : tie.Need-enum-known-w
+enum-known-w c = search needs
+
+part-of-requires : tie.Need-part-of-requires
+part-of-requires c κs = search needs
+
+version-of-requires : tie.Need-version-of-requires
+version-of-requires c κs = search needs
+
+table-entry-requires : tie.Need-table-entry-requires
+table-entry-requires c κs = search needs
+
+returns : tie.Need-returns
+unfolding versionForm
+returns c = simp (← c .before .before .before .before .before .before .before .before .word-at .ensures, c .before .before .before .before .before .before .w .given .1, eq-eqb _ _ (c .before .before .before .if1 .taken), ← c .before .before .part-of .ensures, ← c .before .version-of .ensures) (c .table-entry .ensures)
+
+enum-told : tie.Need-enum-told
+enum-told c = search needs
+
+enum-known-w-2 : tie.Need-enum-known-w-2
+enum-known-w-2 c = search needs
+
+returns-2 : tie.Need-returns-2
+unfolding versionForm
+returns-2 c = simp (← c .before .before .before .before .before .word-at .ensures, c .before .before .before .w .given .1, ne-eqb _ _ (c .if1 .left))
+
+returns-3 : tie.Need-returns-3
+unfolding versionForm
+returns-3 c = simp (← c .before .before .word-at .ensures, c .enum-told .given .1)
+
+returns-4 : tie.Need-returns-4
+unfolding versionForm
+returns-4 c = simp (← c .before .before .before .word-at .ensures, c .before .w2 .given .1)
+
+pub version-form-spec : {M : Type 1} → statement M
+version-form-spec =
+    tie.close
+    (tie.spec
+    word-at-requires
+    enum-known-w
+    part-of-requires
+    version-of-requires
+    table-entry-requires
+    returns
+    enum-told
+    enum-known-w-2
+    returns-2
+    returns-3
+    returns-4)

@@ -1,0 +1,46 @@
+// Prints a classification, a line for the answer and a line for each word.
+use classify::Classified;
+use libc::STDOUT_FILENO;
+
+fn print_number(n: u64) {
+    io::write_all(STDOUT_FILENO, b" ");
+    io::print_decimal(STDOUT_FILENO, n);
+}
+
+fn print_answer(r: Classified) {
+    if r.number == 0 {
+        io::write_all(STDOUT_FILENO, b"classify ok\n");
+        return;
+    }
+    io::write_all(STDOUT_FILENO, b"classify refused");
+    print_number(r.number as u64);
+    print_number(0);
+    print_number(r.line as u64);
+    print_number(r.byte as u64);
+    io::write_all(STDOUT_FILENO, b"\n");
+}
+
+fn print_word(w: [u32; 3]) {
+    io::write_all(STDOUT_FILENO, b"w");
+    print_number(w[0] as u64);
+    print_number(w[1] as u64);
+    print_number(w[2] as u64);
+    io::write_all(STDOUT_FILENO, b"\n");
+}
+
+// The answer, the number of words, and the words.
+pub fn print_words(r: Classified, words: &[[u32; 3]]) {
+    print_answer(r);
+    io::write_all(STDOUT_FILENO, b"words");
+    print_number(r.words as u64);
+    io::write_all(STDOUT_FILENO, b"\n");
+    let n = r.words as usize;
+    let mut i = 0;
+    while i < n {
+        if words.len() <= i {
+            return;
+        }
+        print_word(words[i]);
+        i += 1;
+    }
+}

@@ -1,0 +1,51 @@
+// The reserved words of the text on standard input. Arguments: the words lent, up to 65,536, and the keyword set at the
+// start, 0 to 3.
+use libc::{STDERR_FILENO, STDIN_FILENO};
+
+// The decimal number in `digits`, or 4,294,967,295 where it is none or larger.
+fn number_of(digits: &[u8]) -> u32 {
+    let none: u32 = 4294967295;
+    if digits.len() == 0 {
+        return none;
+    }
+    let mut n: u32 = 0;
+    let mut i = 0;
+    while i < digits.len() {
+        let b = digits[i];
+        if (b < 48) | (57 < b) {
+            return none;
+        }
+        if 400000000 < n {
+            return none;
+        }
+        n = n * 10 + (b - 48) as u32;
+        i += 1;
+    }
+    n
+}
+
+fn argument(i: usize) -> u32 {
+    let mut word = [0u8; 16];
+    let n = os::arg(i, &mut word);
+    number_of(&word[..n])
+}
+
+fn run(text: &[u8], lent: usize, set: u32) {
+    let mut words = [[0u32; 3]; 65536];
+    if words.len() < lent {
+        io::write_all(STDERR_FILENO, b"words: at most 65536 words are lent\n");
+        return;
+    }
+    let r = classify::classify(text, set, &mut words[0..lent]);
+    report::print_words(r, &words[0..lent]);
+}
+
+fn main() {
+    let mut text = [0u8; 1048577];
+    let n = io::read_full(STDIN_FILENO, &mut text);
+    if 1048576 < n {
+        io::write_all(STDERR_FILENO, b"words: the text is over 1,048,576 bytes\n");
+        return;
+    }
+    run(&text[..n], argument(1) as usize, argument(2));
+}

@@ -1,35 +1,59 @@
 -- Classify's answer: 01's number, "line from 1, byte from 0", and the words written.
 -- Assumes nothing.
-use Prim.Native.Nat.{ℕ, suc, _+_}
+use Prim.Native.Nat.{ℕ, _+_, _≤_}
 use mathlib.Core.Bool.{Bool, cond, _||_}
 use mathlib.Core.Path.{_≡_}
 use mathlib.Core.List.{List, [], _∷_, _++_}
-use lib.Dec.{eqb, ltb}
+use lib.Dec.{eqb, leb, ltb}
 use lib.ListN.{length, take, drop}
+use Rattle.definition.specs.Definitions.{definitionAt}
+use Rattle.definition.specs.Answers.{judgedOf}
+use Rattle.definition.specs.declared.Judged.{Judged}
+use Rattle.definition.specs.declared.Judged.the-variants.{Short}
 use Rattle.classify.specs.Words.{Words, ends, bit, wordsOf}
+use Rattle.classify.specs.declared.Ended.{Ended}
 use Rattle.classify.specs.declared.Classified.{Classified}
+
+-- the judged definition, or the work bytes are too few, which are 4,194,304
+pub data Judges (s : List ℕ) (i : ℕ) (r : Judged) : Type 0 where
+  told : r ≡ judgedOf (definitionAt s i) → Judges s i r
+  short : r ≡ Short → Judges s i r
 
 -- the newlines among bytes
 unfoldable pub newlines : List ℕ → ℕ
 newlines [] = 0
 newlines (x ∷ xs) = bit (eqb x 10) + newlines xs
 
--- the line of a byte
-abbrev pub lineOf : List ℕ → ℕ → ℕ
-lineOf s p = newlines (take p s) + 1
+-- a count, at most n
+pub record Counted (right n r : ℕ) : Type 0 where
+  pub count : r ≡ right
+  pub most : r ≤ n
 
 -- "Classify gives only 1 (starting set none of the four, text over 16,777,215 bytes), 2 to 6 and 21"
 unfoldable pub outcomeOf : ℕ → List ℕ → ℕ → Words
 outcomeOf v s k = cond (ltb 3 v || ltb 16777215 (length s)) (ends 1 0) (wordsOf v s k)
 
--- a refusal has a line and a byte, but for 1: "the rest is 0"
-unfoldable pub placeLine : List ℕ → Words → ℕ
-placeLine s w = cond (ltb 1 (w .number)) (lineOf s (w .place)) 0
+-- the line of a refusal's place; of refusal 1 "the rest is 0", and so where nothing is refused
+unfoldable pub lineAt : List ℕ → ℕ → ℕ → ℕ
+lineAt s n p = cond (leb n 1) 0 (newlines (take p s) + 1)
 
+abbrev pub endedOf : Words → Ended
+endedOf w = record { number = w .number; place = w .place; words = length (w .words) }
+
+-- 01's number for each answer is the number itself; 0 where nothing is refused
 abbrev pub answerOf : List ℕ → Words → Classified
-answerOf s w = record { number = w .number; line = placeLine s w; byte = w .place; words = length (w .words) }
+answerOf s w = record { number = w .number; line = lineAt s (w .number) (w .place); byte = w .place; words = length (w .words) }
 
--- one outcome: the answer, and the list of words as lent but for those written
-pub record Classifies (v : ℕ) (s : List ℕ) (lent after : List (List ℕ)) (r : Classified) : Type 0 where
-  pub answer : r ≡ answerOf s (outcomeOf v s (length lent))
-  pub list : after ≡ outcomeOf v s (length lent) .words ++ drop (length (outcomeOf v s (length lent) .words)) lent
+-- the lent list, with words written to its front
+abbrev pub overwritten : List (List ℕ) → List (List ℕ) → List (List ℕ)
+overwritten ws lent = ws ++ drop (length ws) lent
+
+-- the words of a text were listed
+pub record Listed (v : ℕ) (s : List ℕ) (lent after : List (List ℕ)) (r : Ended) : Type 0 where
+  pub ended : r ≡ endedOf (wordsOf v s (length lent))
+  pub list : after ≡ overwritten (wordsOf v s (length lent) .words) lent
+
+-- one outcome w of classify: the answer, and the lent list
+pub record Answered (s : List ℕ) (w : Words) (lent after : List (List ℕ)) (r : Classified) : Type 0 where
+  pub answer : r ≡ answerOf s w
+  pub list : after ≡ overwritten (w .words) lent

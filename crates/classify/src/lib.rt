@@ -7,25 +7,34 @@ ghost use Rattle.lex.specs.Tokens.{nameOf};
 ghost use Rattle.definition.specs.Definitions.{definitionAt};
 ghost use Rattle.definition.specs.Answers.{judgedOf};
 ghost use Rattle.keywords.specs.Tables.{Tables};
-ghost use Rattle.classify.specs.Words.{setBy, byForm, byDefinition, pastDirective, pastGrave, wordOf, bit};
-ghost use Rattle.classify.specs.Answer.{newlines, Classifies};
-ghost use Rattle.classify.specs.Loop.{Listed};
-use definition::{Judged, judge_definition};
-use directive::{Form, Value, form_at};
-use keywords::{BYTES, FIRSTS, STARTS, is_reserved};
-use lex::{GRAVE, NAME};
-use lex::{Token, in_file, token_at};
-use names::{DEFINE, directive_of};
+ghost use Rattle.classify.specs.Words.{setBy, byForm, byDefinition, pastDirective, pastGrave, wordOf, bit, wordsOf};
+ghost use Rattle.classify.specs.Answer.{Judges, Counted, newlines, lineAt, outcomeOf, Listed, Answered};
+use definition::Judged;
+use definition::judge_definition;
+use directive::Form;
+use directive::Value;
+use directive::form_at;
+use keywords::BYTES;
+use keywords::FIRSTS;
+use keywords::STARTS;
+use keywords::is_reserved;
+use lex::GRAVE;
+use lex::NAME;
+use lex::Token;
+use lex::in_file;
+use lex::token_at;
+use names::DEFINE;
+use names::directive_of;
 use text::part_of;
 
 // The answer: the refusal's number, or 0; its line from 1 and its byte from 0, both 0 for refusal 1 and where nothing
 // is refused; the words written.
 #[repr(C)]
 pub struct Classified {
-    pub number: u32,
-    pub line: u32,
-    pub byte: u32,
-    pub words: u32,
+    pub number: usize,
+    pub line: usize,
+    pub byte: usize,
+    pub words: usize,
 }
 
 // Where to read on, and in which keyword set; or a refusal and its place.
@@ -80,37 +89,53 @@ fn judge_any(s: &[u8], at: usize) -> Judged
 
 // With work bytes for a long definition.
 fn judge_long(s: &[u8], at: usize) -> Judged
+    ensures { λ r. ⌜ Judges (now (s .entry)) at r ⌝ }
 {
-    let mut work = [0u8; 2097152];
+    let mut work = [0u8; 4194304];
     judge_definition(s, at, &mut work)
 }
 
-fn judge_in(s: &[u8], at: usize, work: &mut [u8], tier: usize) -> Judged
+// With the lent work bytes first, then with more. It calls itself so that the large arrays stay out of its own frame
+// and its callers': LLVM moves none into a function that does.
+fn judge(s: &[u8], at: usize, work: &mut [u8], tries: usize) -> Judged
+    requires { ⌜ length (now s) ≤ 16777215 ⌝ }
+    ensures { λ r. ⌜ r ≡ judgedOf (definitionAt (now (s .entry)) at) ⌝ }
 {
-    if tier == 0 {
+    if tries == 2 {
         let r = judge_definition(s, at, work);
         match r {
-            Judged::Short => { return judge_in(s, at, work, 1); }
-            Judged::Barred(n, p) => { return Judged::Barred(n, p); }
-            Judged::Bad(e) => { return Judged::Bad(e); }
-            Judged::Good(e) => { return Judged::Good(e); }
+            Judged::Short => {
+                return judge(s, at, work, 1);
+            }
+            Judged::Barred(n, p) => {
+                return Judged::Barred(n, p);
+            }
+            Judged::Bad(e) => {
+                return Judged::Bad(e);
+            }
+            Judged::Good(e) => {
+                return Judged::Good(e);
+            }
         }
     }
-    if tier == 1 {
+    if tries == 1 {
         let r = judge_long(s, at);
         match r {
-            Judged::Short => { return judge_in(s, at, work, 2); }
-            Judged::Barred(n, p) => { return Judged::Barred(n, p); }
-            Judged::Bad(e) => { return Judged::Bad(e); }
-            Judged::Good(e) => { return Judged::Good(e); }
+            Judged::Short => {
+                return judge(s, at, work, 0);
+            }
+            Judged::Barred(n, p) => {
+                return Judged::Barred(n, p);
+            }
+            Judged::Bad(e) => {
+                return Judged::Bad(e);
+            }
+            Judged::Good(e) => {
+                return Judged::Good(e);
+            }
         }
     }
     judge_any(s, at)
-}
-
-fn judge(s: &[u8], at: usize, work: &mut [u8]) -> Judged
-{
-    judge_in(s, at, work, 0)
 }
 
 // Past the definition whose word ends at `at`.
@@ -118,7 +143,7 @@ fn past_definition(s: &[u8], at: usize, set: usize, work: &mut [u8]) -> Past
     requires { ⌜ length (now s) ≤ 16777215 ⌝ }
     ensures { λ r. ⌜ r ≡ byDefinition set at (definitionAt (now (s .entry)) at) ⌝ }
 {
-    let r = judge(s, at, work);
+    let r = judge(s, at, work, 2);
     match r {
         Judged::Barred(n, p) => Past::Stop(n, p),
         Judged::Bad(_) => Past::On(at, set),
@@ -153,7 +178,33 @@ fn bit_of(b: bool) -> u32
     if b { 1 } else { 0 }
 }
 
-// The words of a text in the keyword set `start`, by the three keyword tables, with work bytes for definitions.
+// The name `t` as a word, by the three keyword tables.
+fn word_of(
+    s: &[u8],
+    t: Token,
+    set: usize,
+    bytes: &[u8],
+    starts: &[usize],
+    firsts: &[usize],
+) -> [u32; 3]
+    requires { ⌜ (t .at ≤ t .end) × (t .end ≤ 16777215) × Tables (now bytes) (now starts) (now firsts) ⌝ }
+    ensures { λ r. ⌜ r ≡ wordOf (now (s .entry)) set t ⌝ }
+{
+    let reserved = is_reserved(bytes, starts, firsts, part_of(s, t.from, t.end), set);
+    [t.at as u32, (t.end - t.at) as u32, bit_of(reserved)]
+}
+
+fn make_ended(number: usize, place: usize, words: usize) -> Ended
+    ensures { λ r. ⌜ r ≡ record { number = number; place = place; words = words } ⌝ }
+{
+    Ended {
+        number,
+        place,
+        words,
+    }
+}
+
+// Lists the words of a text in the keyword set `start`, by the three keyword tables, with work bytes for definitions.
 fn list_words(
     s: &[u8],
     start: usize,
@@ -172,55 +223,39 @@ fn list_words(
     while i < s.len() {
         let t = token_at(s, i, in_file());
         if t.bar != 0 {
-            return Ended {
-                number: t.bar,
-                place: i,
-                words: n,
-            };
+            return make_ended(t.bar, i, n);
         }
         if t.kind == NAME {
             if words.len() <= n {
-                return Ended {
-                    number: 21,
-                    place: i,
-                    words: n,
-                };
+                return make_ended(21, i, n);
             }
-            let reserved = is_reserved(bytes, starts, firsts, part_of(s, t.from, t.end), set);
-            words[n] = [i as u32, (t.end - i) as u32, bit_of(reserved)];
+            words[n] = word_of(s, t, set, bytes, starts, firsts);
             n += 1;
             i = t.end;
             continue;
         }
-        if t.kind == GRAVE {
-            let p = past_grave(s, t, start, set, work);
-            match p {
-                Past::On(e, v) => {
-                    i = e;
-                    set = v;
-                    continue;
-                }
-                Past::Stop(k, place) => {
-                    return Ended {
-                        number: k,
-                        place,
-                        words: n,
-                    };
-                }
+        if t.kind != GRAVE {
+            i = t.end;
+            continue;
+        }
+        let p = past_grave(s, t, start, set, work);
+        match p {
+            Past::On(e, v) => {
+                i = e;
+                set = v;
+                continue;
+            }
+            Past::Stop(k, q) => {
+                return make_ended(k, q, n);
             }
         }
-        i = t.end;
     }
-    Ended {
-        number: 0,
-        place: 0,
-        words: n,
-    }
+    make_ended(0, 0, n)
 }
 
 // The newlines before byte `end`.
 fn count_newlines(s: &[u8], end: usize) -> usize
-    ensures { λ r. ⌜ r ≡ newlines (take end (now (s .entry))) ⌝ }
+    ensures { λ r. ⌜ Counted (newlines (take end (now (s .entry)))) (length (now (s .entry))) r ⌝ }
 {
     let mut i = 0;
     let mut n = 0;
@@ -238,7 +273,17 @@ fn count_newlines(s: &[u8], end: usize) -> usize
     n
 }
 
-// The answer on a text of a size that is taken, in one of the four keyword sets.
+// The line of a refusal's place.
+fn line_of(s: &[u8], number: usize, place: usize) -> usize
+    ensures { λ r. ⌜ r ≡ lineAt (now (s .entry)) number place ⌝ }
+{
+    if number <= 1 {
+        return 0;
+    }
+    count_newlines(s, place) + 1
+}
+
+// Classifies a text of a size that is taken, in one of the four keyword sets.
 fn classify_with(
     text: &[u8],
     set: usize,
@@ -248,27 +293,43 @@ fn classify_with(
     firsts: &[usize],
     work: &mut [u8],
 ) -> Classified
+    requires { ⌜ (length (now text) ≤ 16777215) × Tables (now bytes) (now starts) (now firsts) ⌝ }
+    ensures { λ r. ⌜ Answered (now (text .entry)) (wordsOf set (now (text .entry)) (length (now (words .entry)))) (now (words .entry)) (now (words .exit)) r ⌝ }
 {
     let e = list_words(text, set, words, bytes, starts, firsts, work);
-    if e.number == 0 {
-        return Classified { number: 0, line: 0, byte: 0, words: e.words as u32 };
+    Classified {
+        number: e.number,
+        line: line_of(text, e.number, e.place),
+        byte: e.place,
+        words: e.words,
     }
-    let line = count_newlines(text, e.place) + 1;
-    Classified { number: e.number as u32, line: line as u32, byte: e.place as u32, words: e.words as u32 }
+}
+
+// With the keyword tables, which stand here only: a function that names one builds it.
+fn classify_taken(text: &[u8], set: usize, words: &mut [[u32; 3]]) -> Classified
+    requires { ⌜ length (now text) ≤ 16777215 ⌝ }
+    ensures { λ r. ⌜ Answered (now (text .entry)) (wordsOf set (now (text .entry)) (length (now (words .entry)))) (now (words .entry)) (now (words .exit)) r ⌝ }
+{
+    let bytes = BYTES;
+    let starts = STARTS;
+    let firsts = FIRSTS;
+    let mut work = [0u8; 65536];
+    classify_with(text, set, words, &bytes, &starts, &firsts, &mut work)
 }
 
 // Every plain name of `text` outside directives, as offset, length and 1 if the keyword set in force reserves it, else
 // 0. `set` is the keyword set at the start: 0 for 1364-1995, 1 for 1364-2001, 2 for 1364-2005, 3 for 1800-2005.
 #[no_mangle]
 pub extern "C" fn classify(text: &[u8], set: u32, words: &mut [[u32; 3]]) -> Classified
-    ensures { λ r. ⌜ Classifies set (now (text .entry)) (now (words .entry)) (now (words .exit)) r ⌝ }
+    ensures { λ r. ⌜ Answered (now (text .entry)) (outcomeOf set (now (text .entry)) (length (now (words .entry)))) (now (words .entry)) (now (words .exit)) r ⌝ }
 {
     if (3 < set) | (16777215 < text.len()) {
-        return Classified { number: 1, line: 0, byte: 0, words: 0 };
+        return Classified {
+            number: 1,
+            line: 0,
+            byte: 0,
+            words: 0,
+        };
     }
-    let bytes = BYTES;
-    let starts = STARTS;
-    let firsts = FIRSTS;
-    let mut work = [0u8; 65536];
-    classify_with(text, set as usize, words, &bytes, &starts, &firsts, &mut work)
+    classify_taken(text, set as usize, words)
 }

@@ -1,6 +1,7 @@
 // The reserved words of the text on standard input. Arguments: the words lent, up to 65,536, and the keyword set at the
 // start, 0 to 3.
-use libc::{STDERR_FILENO, STDIN_FILENO};
+use libc::STDERR_FILENO;
+use libc::STDIN_FILENO;
 
 // The decimal number in `digits`, or 4,294,967,295 where it is none or larger.
 fn number_of(digits: &[u8]) -> u32 {

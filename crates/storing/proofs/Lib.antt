@@ -1,0 +1,5 @@
+pub mod Adding
+pub mod Reading
+pub mod Joining
+pub mod Trimming
+pub mod Judged

@@ -34,7 +34,7 @@ pub fn print_words(r: Classified, words: &[[u32; 3]]) {
     io::write_all(STDOUT_FILENO, b"words");
     print_number(r.words as u64);
     io::write_all(STDOUT_FILENO, b"\n");
-    let n = r.words as usize;
+    let n = r.words;
     let mut i = 0;
     while i < n {
         if words.len() <= i {

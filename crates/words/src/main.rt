@@ -13,7 +13,10 @@ fn number_of(digits: &[u8]) -> u32 {
     let mut i = 0;
     while i < digits.len() {
         let b = digits[i];
-        if (b < 48) | (57 < b) {
+        if b < 48 {
+            return none;
+        }
+        if 57 < b {
             return none;
         }
         if 400000000 < n {
@@ -31,22 +34,31 @@ fn argument(i: usize) -> u32 {
     number_of(&word[..n])
 }
 
+fn list(text: &[u8], words: &mut [[u32; 3]], set: u32) {
+    let r = classify::classify(text, set, words);
+    report::print_words(r, words);
+}
+
 fn run(text: &[u8], lent: usize, set: u32) {
     let mut words = [[0u32; 3]; 65536];
     if words.len() < lent {
         io::write_all(STDERR_FILENO, b"words: at most 65536 words are lent\n");
         return;
     }
-    let r = classify::classify(text, set, &mut words[0..lent]);
-    report::print_words(r, &words[0..lent]);
+    list(text, &mut words[0..lent], set);
+}
+
+// Reads the text into `text`, which has room for one byte more than is taken.
+fn read_and_run(text: &mut [u8]) {
+    let n = io::read_full(STDIN_FILENO, text);
+    if text.len() <= n {
+        io::write_all(STDERR_FILENO, b"words: the text is over 1,048,576 bytes\n");
+        return;
+    }
+    run(&text[0..n], argument(1) as usize, argument(2));
 }
 
 fn main() {
     let mut text = [0u8; 1048577];
-    let n = io::read_full(STDIN_FILENO, &mut text);
-    if 1048576 < n {
-        io::write_all(STDERR_FILENO, b"words: the text is over 1,048,576 bytes\n");
-        return;
-    }
-    run(&text[..n], argument(1) as usize, argument(2));
+    read_and_run(&mut text);
 }

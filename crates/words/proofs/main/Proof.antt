@@ -1,0 +1,22 @@
+use mathlib.Core.Path.{sym}
+use mathlib.Core.Path.{_≡_}
+use Prim.Native.Nat.{ℕ}
+use lib.ListN.{length, replicate, length-replicate}
+use Rattle.words.proofs.main.Statement.{statement}
+use Rattle.words.proofs.main.Tie as tie
+
+-- a repeat has as many elements as it says
+filled : (n : ℕ) → n ≡ length {A = ℕ} (replicate n 0)
+filled n = sym (length-replicate n 0)
+
+slice-aggregate-read-and-run : tie.Need-slice-aggregate-read-and-run
+slice-aggregate-read-and-run c = filled 1048577
+
+read-and-run-requires : tie.Need-read-and-run-requires
+read-and-run-requires c κs = tt
+
+returns : tie.Need-returns
+returns c = tt
+
+pub main-spec : {M : Type 1} → statement M
+main-spec = tie.close (tie.spec slice-aggregate-read-and-run read-and-run-requires returns)

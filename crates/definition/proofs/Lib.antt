@@ -5,3 +5,6 @@ pub mod Stacking
 pub mod Defaults
 pub mod Heading
 pub mod Counting
+pub mod Verdicts
+pub mod Scanning
+pub mod Defining

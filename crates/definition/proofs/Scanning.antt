@@ -1,0 +1,124 @@
+-- A walk along a formal list: what is asked of the whole list is asked of the formals that are left.
+-- Assumes nothing.
+use Prim.Native.Nat.{ℕ, _-_, _<_, _≤_}
+use mathlib.Core.Bool.{Bool, true, false, cond}
+use mathlib.Core.List.{List, [], _∷_}
+use mathlib.Core.Path.{_≡_, refl, sym, ap, _∙_}
+use native.Mathlib.Omega.{arith}
+use lib.ListN.{length}
+use Rattle.text.specs.Bytes.{same}
+use Rattle.definition.specs.Lists.{formalAt, Formals, ill, whole, formalsAt, behind}
+use Rattle.definition.specs.Definitions.{formalName, named, badAmong, badFormals}
+use Rattle.definition.specs.Answers.{Settled}
+use Rattle.definition.specs.declared.Formal.{Formal}
+use Rattle.definition.specs.declared.FormalRead.{FormalRead}
+use Rattle.definition.specs.declared.FormalRead.the-variants as formal
+use Rattle.definition.proofs.Formals.{formal-inside, formal-full, formals-ill, formals-out, Rest, formals-rest, behind-last, behind-more}
+use Rattle.definition.proofs.Settling.{settled-full, settled-over}
+
+ill-whole : {A : Type 0} (g : Formals) {fs : List Formal} {e : ℕ} → g ≡ ill → g ≡ whole fs e → A
+ill-whole g p q = absurd (let z : _≡_ {A = ℕ} 0 1 = cc in omega arith)
+
+-- the formals behind a last one and behind another
+module _ (s : List ℕ) (f : Formal) {fs : List Formal} {e : ℕ} (p : behind s f ≡ whole fs e) where
+  pub none-behind : f .last ≡ true → fs ≡ []
+  none-behind l = let z : whole fs e ≡ whole [] (f .next) = sym p ∙ behind-last s f l in cc
+
+  pub some-behind : f .last ≡ false → formalsAt s (f .next) ≡ whole fs e
+  some-behind l = sym (behind-more s f l) ∙ p
+
+-- of the whole list fs: the formals from i on, of which v says what it says of all
+pub record Left (s : List ℕ) (v : List Formal → Bool) (i : ℕ) (fs : List Formal) (e : ℕ) : Type 0 where
+  pub rest : List Formal
+  pub here : formalsAt s i ≡ whole rest e
+  pub alike : v fs ≡ v rest
+
+-- a walk from `at` on is at i, with a buffer o′ that is as long as it was
+pub record Scanning (s o o′ : List ℕ) (v : List Formal → Bool) (at i : ℕ) : Type 0 where
+  pub same-length : length o′ ≡ length o
+  pub left : (fs : List Formal) (e : ℕ) → formalsAt s at ≡ whole fs e → Left s v i fs e
+
+pub scan-first : {s o : List ℕ} {v : List Formal → Bool} {at : ℕ} → Scanning s o o v at at
+scan-first = record { same-length = refl; left = λ fs e p. record { rest = fs; here = p; alike = refl } }
+
+module _ {s o o′ : List ℕ} {v : List Formal → Bool} {at i : ℕ} (a : Scanning s o o′ v at i) where
+  -- a whole list has a formal at i
+  pub scan-out : {A : Type 0} → length s ≤ i → {fs : List Formal} {e : ℕ} → formalsAt s at ≡ whole fs e → A
+  scan-out l {fs} {e} p = ill-whole (formalsAt s i) (formals-out s i l) (a .left fs e p .here)
+
+  module _ {r : FormalRead} (h : Settled s o′ formal.Short (formalAt s i) r) where
+    pub scan-torn : {A : Type 0} → r ≡ formal.IllFormed → {fs : List Formal} {e : ℕ} → formalsAt s at ≡ whole fs e → A
+    scan-torn q {fs} {e} p =
+        let z : r ≡ formalAt s i = settled-full h (λ y. let z : _≡_ {A = ℕ} 0 1 = cc in omega arith) in
+        ill-whole (formalsAt s i) (formals-ill s i (sym z ∙ q)) (a .left fs e p .here)
+
+    pub scan-short : r ≡ formal.Short → length o < length s
+    scan-short q = omega (arith, a .same-length, settled-over h q (formal-full s i))
+
+    module _ {f : Formal} (q : r ≡ formal.Whole f) where
+      formal-read : formalAt s i ≡ formal.Whole f
+      formal-read = sym (settled-full h (λ y. let z : _≡_ {A = ℕ} 0 1 = cc in omega arith)) ∙ q
+
+      pub scan-less : i < length s → length s - f .next < length s - i
+      scan-less l = omega (arith, formal-inside s i f formal-read .0)
+
+      module _ {fs : List Formal} {e : ℕ} (p : formalsAt s at ≡ whole fs e) where
+        scan-rest : Rest s f (a .left fs e p .rest) e
+        scan-rest = formals-rest s i f (a .left fs e p .rest) e formal-read (a .left fs e p .here)
+
+        -- what v says of all, where it is known of the formals from i on
+        pub scan-said : (b : Bool) → ((gs : List Formal) → behind s f ≡ whole gs e → v (f ∷ gs) ≡ b) → v fs ≡ b
+        scan-said b g = let k = scan-rest in a .left fs e p .alike ∙ (ap v (k .first) ∙ g (k .rest) (k .others))
+
+        -- a buffer of n bytes that is too short for those behind
+        pub scan-over : {n : ℕ} → n ≡ length o′ → ((gs : List Formal) → behind s f ≡ whole gs e → n < length s) → length o < length s
+        scan-over z g = let k = scan-rest in omega (arith, a .same-length, g (k .rest) (k .others))
+
+      module _ (g : (gs : List Formal) (e : ℕ) → behind s f ≡ whole gs e → v (f ∷ gs) ≡ v gs) where
+        pub scan-next : {o″ : List ℕ} → f .last ≡ false → length o″ ≡ length o′ → Scanning s o o″ v at (f .next)
+        scan-next l z =
+            record {
+              same-length = z ∙ a .same-length;
+              left = λ fs e p. let k = scan-rest p in
+                  record {
+                    rest = k .rest;
+                    here = some-behind s f (k .others) l;
+                    alike = a .left fs e p .alike ∙ (ap v (k .first) ∙ g (k .rest) e (k .others));
+                  };
+            }
+
+        pub scan-last : f .last ≡ true → v [] ≡ false → {fs : List Formal} {e : ℕ} → formalsAt s at ≡ whole fs e → v fs ≡ false
+        scan-last l z {fs} {e} p = scan-said p false (λ gs y. g gs e y ∙ (ap v (none-behind s f y l) ∙ z))
+
+-- a formal of that name
+module _ (s w : List ℕ) where
+  pub named-none : {fs : List Formal} → fs ≡ [] → named s w fs ≡ false
+  unfolding named
+  named-none e = rw e
+
+  module _ (f : Formal) {x y : List ℕ} (p : x ≡ w) (q : y ≡ formalName s f) (b : Bool) (e : b ≡ same x y) (fs : List Formal) where
+    as-read : same w (formalName s f) ≡ b
+    as-read = ap (λ (k : List ℕ). same k (formalName s f)) (sym p) ∙ (ap (same x) (sym q) ∙ sym e)
+
+    pub named-here : b ≡ true → named s w (f ∷ fs) ≡ true
+    unfolding named
+    named-here z = ap (λ (k : Bool). cond k true (named s w fs)) (as-read ∙ z)
+
+    pub named-past : b ≡ false → named s w (f ∷ fs) ≡ named s w fs
+    unfolding named
+    named-past z = ap (λ (k : Bool). cond k true (named s w fs)) (as-read ∙ z)
+
+-- a bad formal
+module _ (s : List ℕ) where
+  pub bad-none : {fs : List Formal} → fs ≡ [] → badFormals s fs ≡ false
+  unfolding badFormals
+  bad-none e = rw e
+
+  module _ (f : Formal) (fs : List Formal) where
+    pub bad-here : badAmong s f fs ≡ true → badFormals s (f ∷ fs) ≡ true
+    unfolding badFormals
+    bad-here z = ap (λ (k : Bool). cond k true (badFormals s fs)) z
+
+    pub bad-past : badAmong s f fs ≡ false → badFormals s (f ∷ fs) ≡ badFormals s fs
+    unfolding badFormals
+    bad-past z = ap (λ (k : Bool). cond k true (badFormals s fs)) z

@@ -103,37 +103,17 @@ fn judge(s: &[u8], at: usize, work: &mut [u8], tries: usize) -> Judged
 {
     if tries == 2 {
         let r = judge_definition(s, at, work);
-        match r {
-            Judged::Short => {
-                return judge(s, at, work, 1);
-            }
-            Judged::Barred(n, p) => {
-                return Judged::Barred(n, p);
-            }
-            Judged::Bad(e) => {
-                return Judged::Bad(e);
-            }
-            Judged::Good(e) => {
-                return Judged::Good(e);
-            }
-        }
+        let Judged::Short = r else {
+            return r;
+        };
+        return judge(s, at, work, 1);
     }
     if tries == 1 {
         let r = judge_long(s, at);
-        match r {
-            Judged::Short => {
-                return judge(s, at, work, 0);
-            }
-            Judged::Barred(n, p) => {
-                return Judged::Barred(n, p);
-            }
-            Judged::Bad(e) => {
-                return Judged::Bad(e);
-            }
-            Judged::Good(e) => {
-                return Judged::Good(e);
-            }
-        }
+        let Judged::Short = r else {
+            return r;
+        };
+        return judge(s, at, work, 0);
     }
     judge_any(s, at)
 }

@@ -8,3 +8,4 @@ pub mod Counting
 pub mod Verdicts
 pub mod Scanning
 pub mod Defining
+pub mod Advance

@@ -1,3 +1,4 @@
 pub mod Wording
 pub mod Including
 pub mod Timing
+pub mod Advance

@@ -1,0 +1,31 @@
+-- `classify::past_form` meets its contract. The definition branches as the code does.
+-- Assumes nothing.
+use borrow.Author.Needs.{needs}
+use Rattle.classify.proofs.past_form.Statement.{statement}
+use Rattle.classify.proofs.past_form.Tie as tie
+
+enum-known-f : tie.Need-enum-known-f
+enum-known-f c = search needs
+
+set-after-requires : tie.Need-set-after-requires
+set-after-requires c κs = search needs
+
+enum-told : tie.Need-enum-told
+enum-told c = search needs
+
+enum-known-f-2 : tie.Need-enum-known-f-2
+enum-known-f-2 c = search needs
+
+returns : tie.Need-returns
+returns c = simp (c .before .before .f .given .1, c .set-after .ensures)
+
+returns-2 : tie.Need-returns-2
+returns-2 c = rw (c .enum-told .given .1)
+
+returns-3 : tie.Need-returns-3
+returns-3 c = rw (c .before .f2 .given .1)
+
+pub past-form-spec : {M : Type 1} → statement M
+past-form-spec =
+    tie.close
+    (tie.spec enum-known-f set-after-requires enum-told enum-known-f-2 returns returns-2 returns-3)

@@ -1,9 +1,6 @@
 use borrow.Author.Needs.{needs}
 use Rattle.lex.proofs.is_byte.Statement.{statement}
 use Rattle.lex.proofs.is_byte.Tie as tie
-use Rattle.lex.proofs.is_byte.Reads as reads
-use Rattle.lex.proofs.is_byte.Lts as lts
-use Rattle.text.proofs.peek.Reads as peek-reads
 
 peek-requires : tie.Need-peek-requires
 peek-requires c κs = search needs

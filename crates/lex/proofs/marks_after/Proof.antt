@@ -2,8 +2,6 @@ use Rattle.lex.specs.Tokens.{marksAfter}
 use borrow.Author.Tests.{eq-eqb, ne-eqb}
 use Rattle.lex.proofs.marks_after.Statement.{statement}
 use Rattle.lex.proofs.marks_after.Tie as tie
-use Rattle.lex.proofs.marks_after.Reads as reads
-use Rattle.lex.proofs.marks_after.Lts as lts
 
 returns : tie.Need-returns
 unfolding marksAfter

@@ -2,8 +2,6 @@ use Rattle.lex.specs.Faults.{worseOf}
 use borrow.Author.Tests.{eq-eqb, ne-eqb, lt-ltb, lt-leb, le-ltb, le-leb}
 use Rattle.lex.proofs.worse.Statement.{statement}
 use Rattle.lex.proofs.worse.Tie as tie
-use Rattle.lex.proofs.worse.Reads as reads
-use Rattle.lex.proofs.worse.Lts as lts
 
 returns : tie.Need-returns
 unfolding worseOf

@@ -2,12 +2,6 @@ use borrow.Author.Needs.{needs}
 use Prim.Native.Nat.{_≤_, _-_}
 use Rattle.report.proofs.print_words.Statement.{statement}
 use Rattle.report.proofs.print_words.Tie as tie
-use Rattle.report.proofs.print_words.Reads as reads
-use Rattle.report.proofs.print_words.Lts as lts
-use Rattle.io.proofs.write_all.Reads as write-all-reads
-use Rattle.report.proofs.print_answer.Reads as print-answer-reads
-use Rattle.report.proofs.print_number.Reads as print-number-reads
-use Rattle.report.proofs.print_word.Reads as print-word-reads
 
 abbrev Inv-loop : tie.InvT-loop
 Inv-loop words n i₀ i = i ≤ n

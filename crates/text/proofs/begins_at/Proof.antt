@@ -6,8 +6,6 @@ use Rattle.text.specs.Bytes.{begins}
 use Rattle.text.proofs.Matching.{begins-end, begins-past, begins-differ, begins-next}
 use Rattle.text.proofs.begins_at.Statement.{statement}
 use Rattle.text.proofs.begins_at.Tie as tie
-use Rattle.text.proofs.begins_at.Reads as reads
-use Rattle.text.proofs.begins_at.Lts as lts
 
 abbrev Inv-loop : tie.InvT-loop
 Inv-loop s at word i₀ k₀ i k = (i ≤ length word) × (begins (drop at s) word ≡ begins (drop k s) (drop i word))
@@ -15,43 +13,33 @@ Inv-loop s at word i₀ k₀ i k = (i ≤ length word) × (begins (drop at s) wo
 abbrev μ-loop : tie.MeasureT-loop
 μ-loop s at word i₀ k₀ i k = length word - i
 
--- src/lib.rt:14:5
 loop-holds : tie.Need-loop-holds Inv-loop μ-loop
 loop-holds c = (omega arith, refl)
 
--- src/lib.rt:16:13
 returns : tie.Need-returns Inv-loop μ-loop
 returns c = sym (c .before .before .loop .inv .1 ∙ begins-past _ _ _ _ (c .if1 .taken) (c .before .loop-test .taken))
 
--- src/lib.rt:18:12
 shared-slice-read-if2 : tie.Need-shared-slice-read-if2 Inv-loop μ-loop
 shared-slice-read-if2 c = omega arith
 
--- src/lib.rt:18:20
 shared-slice-read-if2-2 : tie.Need-shared-slice-read-if2-2 Inv-loop μ-loop
 shared-slice-read-if2-2 c = omega arith
 
--- src/lib.rt:19:13
 returns-2 : tie.Need-returns-2 Inv-loop μ-loop
 returns-2 c = sym (c .before .before .before .before .before .loop .inv .1 ∙ begins-differ _ _ _ _ (c .before .before .before .if1 .left) (c .before .before .before .before .loop-test .taken) (c .if2 .taken))
 
--- src/lib.rt:21:9
 add-i : tie.Need-add-i Inv-loop μ-loop
 add-i c = omega arith
 
--- src/lib.rt:22:9
 add-k : tie.Need-add-k Inv-loop μ-loop
 add-k c = omega arith
 
--- src/lib.rt:14:5
 loop-less : tie.Need-loop-less Inv-loop μ-loop
 loop-less c = omega arith
 
--- src/lib.rt:14:5
 loop-again : tie.Need-loop-again Inv-loop μ-loop
 loop-again c = (omega arith, c .before .before .before .before .before .loop .inv .1 ∙ begins-next _ _ _ _ (c .before .before .before .if1 .left) (c .before .before .before .before .loop-test .taken) (c .if2 .left))
 
--- src/lib.rt:9:1
 returns-3 : tie.Need-returns-3 Inv-loop μ-loop
 returns-3 c = let a = c .before .before .args in let l = c .before .loop in
     sym (l .inv .1 ∙ begins-end (a .s .now) (a .word .now) (l .k) (l .i) (c .loop-test .left))

@@ -7,8 +7,6 @@ use Rattle.text.specs.Order.{orderOf}
 use Rattle.text.proofs.Comparing.{Agree, agree-none, agree-long, agree-short, agree-end, agree-less, agree-more, agree-next}
 use Rattle.text.proofs.compare.Statement.{statement}
 use Rattle.text.proofs.compare.Tie as tie
-use Rattle.text.proofs.compare.Reads as reads
-use Rattle.text.proofs.compare.Lts as lts
 
 abbrev Inv-loop : tie.InvT-loop
 Inv-loop a b i₀ i = Agree a b i
@@ -16,55 +14,42 @@ Inv-loop a b i₀ i = Agree a b i
 abbrev μ-loop : tie.MeasureT-loop
 μ-loop a b i₀ i = length a - i
 
--- src/lib.rt:21:5
 loop-holds : tie.Need-loop-holds Inv-loop μ-loop
 loop-holds c = agree-none
 
--- src/lib.rt:23:13
 returns : tie.Need-returns Inv-loop μ-loop
 returns c = agree-long (c .before .before .loop .inv) (c .before .loop-test .taken) (c .if1 .taken)
 
--- src/lib.rt:25:12
 shared-slice-read-if2 : tie.Need-shared-slice-read-if2 Inv-loop μ-loop
 shared-slice-read-if2 c = search needs
 
--- src/lib.rt:25:19
 shared-slice-read-if2-2 : tie.Need-shared-slice-read-if2-2 Inv-loop μ-loop
 shared-slice-read-if2-2 c = search needs
 
--- src/lib.rt:26:13
 returns-2 : tie.Need-returns-2 Inv-loop μ-loop
 returns-2 c = agree-less (c .before .before .before .before .before .loop .inv) (omega arith) (omega arith) (c .if2 .taken)
 
--- src/lib.rt:28:12
 shared-slice-read-if3 : tie.Need-shared-slice-read-if3 Inv-loop μ-loop
 shared-slice-read-if3 c = search needs
 
--- src/lib.rt:28:19
 shared-slice-read-if3-2 : tie.Need-shared-slice-read-if3-2 Inv-loop μ-loop
 shared-slice-read-if3-2 c = search needs
 
--- src/lib.rt:29:13
 returns-3 : tie.Need-returns-3 Inv-loop μ-loop
 returns-3 c = agree-more (c .before .before .before .before .before .before .before .before .loop .inv) (omega arith) (omega arith) (omega arith) (c .if3 .taken)
 
--- src/lib.rt:31:9
 add-i : tie.Need-add-i Inv-loop μ-loop
 add-i c = search needs
 
--- src/lib.rt:21:5
 loop-less : tie.Need-loop-less Inv-loop μ-loop
 loop-less c = search needs
 
--- src/lib.rt:21:5
 loop-again : tie.Need-loop-again Inv-loop μ-loop
 loop-again c = agree-next (c .before .before .before .before .before .before .before .before .loop .inv) (omega arith) (omega arith) (omega arith) (omega arith)
 
--- src/lib.rt:17:1
 returns-4 : tie.Need-returns-4 Inv-loop μ-loop
 returns-4 c = agree-short (c .before .before .loop .inv) (omega arith) (omega arith)
 
--- src/lib.rt:17:1
 returns-5 : tie.Need-returns-5 Inv-loop μ-loop
 returns-5 c = agree-end (c .before .before .loop .inv) (omega arith) (omega arith)
 

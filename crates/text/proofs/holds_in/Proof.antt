@@ -5,8 +5,6 @@ use Rattle.text.specs.Bytes.{holds, part}
 use Rattle.text.proofs.Matching.{holds-out, holds-hit, holds-miss, holds-none}
 use Rattle.text.proofs.holds_in.Statement.{statement}
 use Rattle.text.proofs.holds_in.Tie as tie
-use Rattle.text.proofs.holds_in.Reads as reads
-use Rattle.text.proofs.holds_in.Lts as lts
 
 abbrev Inv-loop : tie.InvT-loop
 Inv-loop s at end b i₀ i = holds b (part s i end) ≡ holds b (part s at end)

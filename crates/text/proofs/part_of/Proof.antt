@@ -4,8 +4,6 @@ use Rattle.text.proofs.Matching.{part-none, part-out, part-cut}
 use borrow.Author.Needs.{needs}
 use Rattle.text.proofs.part_of.Statement.{statement}
 use Rattle.text.proofs.part_of.Tie as tie
-use Rattle.text.proofs.part_of.Reads as reads
-use Rattle.text.proofs.part_of.Lts as lts
 
 sub-result : tie.Need-sub-result
 sub-result c = search needs

@@ -3,8 +3,6 @@ use lib.ListN.{List·getD-eq-default}
 use borrow.Author.Needs.{needs}
 use Rattle.text.proofs.peek.Statement.{statement}
 use Rattle.text.proofs.peek.Tie as tie
-use Rattle.text.proofs.peek.Reads as reads
-use Rattle.text.proofs.peek.Lts as lts
 
 shared-slice-read-result : tie.Need-shared-slice-read-result
 shared-slice-read-result c = search needs

@@ -6,8 +6,6 @@ use Rattle.text.specs.Bytes.{same}
 use Rattle.text.proofs.Matching.{same-end, same-differ, same-next, same-length}
 use Rattle.text.proofs.same.Statement.{statement}
 use Rattle.text.proofs.same.Tie as tie
-use Rattle.text.proofs.same.Reads as reads
-use Rattle.text.proofs.same.Lts as lts
 
 abbrev Inv-loop : tie.InvT-loop
 Inv-loop s word i₀ i = (i ≤ length word) × (same s word ≡ same (drop i s) (drop i word))
@@ -15,41 +13,32 @@ Inv-loop s word i₀ i = (i ≤ length word) × (same s word ≡ same (drop i s)
 abbrev μ-loop : tie.MeasureT-loop
 μ-loop s word i₀ i = length word - i
 
--- src/lib.rt:32:9
 returns : tie.Need-returns Inv-loop μ-loop
 returns c = sym (same-length _ _ (c .if1 .taken))
 
--- src/lib.rt:35:5
 loop-holds : tie.Need-loop-holds Inv-loop μ-loop
 loop-holds c = (omega arith, refl)
 
--- src/lib.rt:36:12
 shared-slice-read-if2 : tie.Need-shared-slice-read-if2 Inv-loop μ-loop
 shared-slice-read-if2 c = omega arith
 
--- src/lib.rt:36:20
 shared-slice-read-if2-2 : tie.Need-shared-slice-read-if2-2 Inv-loop μ-loop
 shared-slice-read-if2-2 c = omega arith
 
--- src/lib.rt:37:13
 returns-2 : tie.Need-returns-2 Inv-loop μ-loop
 returns-2 c = let l = c .before .before .before .before .loop in let a = c .before .before .before .before .before .before .args in
     sym (l .inv .1 ∙ same-differ (a .s .now) (a .word .now) (l .i) (omega arith) (omega arith) (c .if2 .taken))
 
--- src/lib.rt:39:9
 add-i : tie.Need-add-i Inv-loop μ-loop
 add-i c = omega arith
 
--- src/lib.rt:35:5
 loop-less : tie.Need-loop-less Inv-loop μ-loop
 loop-less c = omega arith
 
--- src/lib.rt:35:5
 loop-again : tie.Need-loop-again Inv-loop μ-loop
 loop-again c = let l = c .before .before .before .before .loop in let a = c .before .before .before .before .before .before .args in
     (omega arith, l .inv .1 ∙ same-next (a .s .now) (a .word .now) (l .i) (omega arith) (omega arith) (c .if2 .left))
 
--- src/lib.rt:28:1
 returns-3 : tie.Need-returns-3 Inv-loop μ-loop
 returns-3 c = let l = c .before .loop in let a = c .before .before .before .args in
     sym (l .inv .1 ∙ same-end (a .s .now) (a .word .now) (l .i) (omega arith) (omega arith))

@@ -3,9 +3,6 @@ use Prim.Native.Nat.{_≤_, _-_}
 use lib.ListN.{length}
 use Rattle.words_cases.proofs.run_all.Statement.{statement}
 use Rattle.words_cases.proofs.run_all.Tie as tie
-use Rattle.words_cases.proofs.run_all.Reads as reads
-use Rattle.words_cases.proofs.run_all.Lts as lts
-use Rattle.words_cases.proofs.run_case.Reads as run-case-reads
 
 abbrev Inv-loop : tie.InvT-loop
 Inv-loop s i₀ i = i ≤ length s

@@ -9,3 +9,4 @@ pub mod Verdicts
 pub mod Scanning
 pub mod Defining
 pub mod Advance
+pub mod Computing

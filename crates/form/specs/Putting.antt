@@ -7,7 +7,9 @@ use mathlib.Core.List.{List, _++_}
 use lib.ListN.{length, take}
 use Rattle.storing.specs.declared.Stored.{Stored}
 use Rattle.storing.specs.declared.Stored.the-variants.{Upto, Short}
+use Rattle.definition.specs.Lists.{Formals, whole}
 use Rattle.definition.specs.Definitions.{Macro}
+use Rattle.definition.specs.declared.Formal.{Formal}
 use Rattle.form.specs.Forms.{formOf, textStart}
 use Rattle.form.specs.declared.FormWritten.{FormWritten}
 use Rattle.form.specs.declared.FormWritten.the-variants as written
@@ -22,6 +24,12 @@ pub record Put (o o′ : List ℕ) (n m : ℕ) (ys : List ℕ) : Type 0 where
 abbrev pub PutBy : Stored → Type 0 → List ℕ → List ℕ → ℕ → List ℕ → Type 0
 PutBy (Upto m) lack o o′ n ys = Put o o′ n m ys
 PutBy Short lack o o′ n ys = lack ⊎ (length o < n + length ys)
+
+-- g are so many formals, and the text begins at x
+pub record Listed (g : Formals) (count x : ℕ) : Type 0 where
+  pub formals : List Formal
+  pub shape : g ≡ whole formals x
+  pub number : count ≡ length formals
 
 -- the stored form of m was written from the first byte on, with its length and where its text starts; or the work
 -- bytes are fewer than those of the text s, or the buffer is too short for it

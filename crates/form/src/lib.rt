@@ -9,7 +9,7 @@ ghost use Rattle.storing.specs.Stored.{stored};
 ghost use Rattle.definition.specs.Lists.{formalsAt, whole};
 ghost use Rattle.definition.specs.Definitions.{Macro, macro, good, parameterOf, parametersOf, shapeBy, definitionAt};
 ghost use Rattle.form.specs.Forms.{two, sized, listForm, defaultBy, defaultForm, parameterForm, parameterForms, headForm};
-ghost use Rattle.form.specs.Putting.{PutBy, FormBy};
+ghost use Rattle.form.specs.Putting.{Listed, PutBy, FormBy};
 use definition::Formal;
 use definition::FormalRead;
 use definition::Head;
@@ -220,7 +220,7 @@ fn write_macro(
     work: &mut [u8],
     out: &mut [u8],
 ) -> FormWritten
-    requires { ⌜ count ≤ 16 ⌝ }
+    requires { ⌜ (count ≤ 16) × Listed (shapeBy (now s) h) count text ⌝ }
     ensures { λ r. ⌜ ((fs : List Formal) → shapeBy (now (s .entry)) h ≡ whole fs text → count ≡ length fs → FormBy r (now (s .entry)) (now (work .entry)) (macro (part (now (s .entry)) (h .from) (h .end)) (parametersOf (now (s .entry)) fs) (stored (now (s .entry)) text end)) (now (out .entry)) (now (out .exit))) ⌝ }
 {
     let r = push_head(s, h, count, work, out);

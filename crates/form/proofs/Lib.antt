@@ -1,0 +1,5 @@
+pub mod Pushing
+pub mod Formed
+pub mod Walking
+pub mod Told
+pub mod Claims

@@ -79,15 +79,6 @@ default-in s m i =
     by-step (EndsIn s i) (stepAt s t ks) t (λ ks′. defaultIn s ks′ rest) (λ ks′. earlier s i (t .end) (omega arith) (defaultIn s ks′ rest) (r ks′))
     (omega arith, omega arith, token-within m s i l) tt) m i
 
-pub default-inside : (s : List ℕ) (i e x : ℕ) → defaultEnd s i ≡ ending.Upto e x → (i ≤ e) × (e < x) × (x ≤ length s)
-unfolding EndsIn defaultEnd
-default-inside s i e x q = subst (EndsIn s i) q (default-in s inDefinition i [])
-
--- the definition of a default's end is never short of bytes
-pub default-full : (s : List ℕ) (i : ℕ) → defaultEnd s i ≡ ending.Short → ⊥
-unfolding EndsIn defaultEnd
-default-full s i q = subst (EndsIn s i) q (default-in s inDefinition i [])
-
 -- a formal from i on ends in the text
 FormalIn : List ℕ → ℕ → FormalRead → Type 0
 FormalIn s i (formal.Whole f) = (i < f .next) × (f .next ≤ length s)

@@ -23,23 +23,12 @@ module _ {A : Type 0} {s w : List ℕ} {short right r : A} where
   settled-lent h (full e) = full e
   settled-lent h (over e l) = over e (omega arith)
 
-  -- `short` where it is not the right answer settles every question
-  pub settled-short : {B : Type 0} {short′ right′ r′ : B} → Settled s w short right r → r ≡ short → (right ≡ short → ⊥) → r′ ≡ short′
-      → Settled s w short′ right′ r′
-  settled-short h q n e = over e (settled-over h q n)
-
   -- the right answer, said in other words
   pub settled-as : {right′ : A} → right ≡ right′ → Settled s w short right r → Settled s w short right′ r
   settled-as h (full e) = full (e ∙ h)
   settled-as h (over e l) = over e l
 
--- through a function of the answer
-pub settled-map : {A B : Type 0} (f : A → B) {s w : List ℕ} {short right r : A} → Settled s w short right r
-    → Settled s w (f short) (f right) (f r)
-settled-map f (full e) = full (ap f e)
-settled-map f (over e l) = over (ap f e) l
-
--- and told in other words
+-- an answer handed on through a function, told in other words
 pub settled-through : {A B : Type 0} (f : A → B) {s w : List ℕ} {short right r : A} → Settled s w short right r → {v : B} → v ≡ f r
     → Settled s w (f short) (f right) v
 settled-through f (full e) q = full (q ∙ ap f e)

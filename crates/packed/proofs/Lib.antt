@@ -1,0 +1,4 @@
+pub mod Moves
+pub mod Splices
+pub mod Gaps
+pub mod Rows

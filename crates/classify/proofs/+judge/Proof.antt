@@ -1,3 +1,5 @@
+-- `classify::judge` meets its contract: at each try an answer other than `Short` is right, and the last try has enough bytes.
+-- Assumes nothing.
 use borrow.Author.Needs.{needs}
 use Rattle.definition.proofs.Settling.{settled-full}
 use Rattle.classify.proofs.Filled.{judges-told, other-tag}
@@ -22,188 +24,9 @@ judge-at t = and 2 judge-kinds.ps (is 2 judge-kinds.ps μ-judge t) judge.Pre
 abbrev judge-below : ℕ → In 2 judge-kinds.ps
 judge-below t = and 2 judge-kinds.ps (falls 2 judge-kinds.ps _<_ μ-judge t) judge.Pre
 
-judge-judge-definition-requires : (t : ℕ) → judge-lts.Need-judge-definition-requires (
-  judge-definition-reads.Asked,
-  judge-definition-reads.Learnt,
-  judge-below t,
-  judge.Post,
-  judge-long-reads.Asked,
-  judge-long-reads.Learnt,
-  judge-any-reads.Asked,
-  judge-any-reads.Learnt,
-) (judge-at t) judge.Post
-judge-judge-definition-requires t c κs = search needs
-
-judge-enum-told : (t : ℕ) → judge-lts.Need-enum-told (
-  judge-definition-reads.Asked,
-  judge-definition-reads.Learnt,
-  judge-below t,
-  judge.Post,
-  judge-long-reads.Asked,
-  judge-long-reads.Learnt,
-  judge-any-reads.Asked,
-  judge-any-reads.Learnt,
-) (judge-at t) judge.Post
-judge-enum-told t c = c .match .keys1
-
-judge-same-length : (t : ℕ) → judge-lts.Need-same-length (
-  judge-definition-reads.Asked,
-  judge-definition-reads.Learnt,
-  judge-below t,
-  judge.Post,
-  judge-long-reads.Asked,
-  judge-long-reads.Learnt,
-  judge-any-reads.Asked,
-  judge-any-reads.Learnt,
-) (judge-at t) judge.Post
-judge-same-length t c = search needs
-
-judge-returns : (t : ℕ) → judge-lts.Need-returns (
-  judge-definition-reads.Asked,
-  judge-definition-reads.Learnt,
-  judge-below t,
-  judge.Post,
-  judge-long-reads.Asked,
-  judge-long-reads.Learnt,
-  judge-any-reads.Asked,
-  judge-any-reads.Learnt,
-) (judge-at t) judge.Post
-judge-returns t c = settled-full (c .before .before .before .judge-definition .ensures) (λ e. other-tag _ (c .match .keys2) (rw e))
-
-judge-judge-requires : (t : ℕ) → judge-lts.Need-judge-requires (
-  judge-definition-reads.Asked,
-  judge-definition-reads.Learnt,
-  judge-below t,
-  judge.Post,
-  judge-long-reads.Asked,
-  judge-long-reads.Learnt,
-  judge-any-reads.Asked,
-  judge-any-reads.Learnt,
-) (judge-at t) judge.Post
-judge-judge-requires t c κs = search needs
-
-judge-same-length-2 : (t : ℕ) → judge-lts.Need-same-length-2 (
-  judge-definition-reads.Asked,
-  judge-definition-reads.Learnt,
-  judge-below t,
-  judge.Post,
-  judge-long-reads.Asked,
-  judge-long-reads.Learnt,
-  judge-any-reads.Asked,
-  judge-any-reads.Learnt,
-) (judge-at t) judge.Post
-judge-same-length-2 t c = search needs
-
-judge-returns-2 : (t : ℕ) → judge-lts.Need-returns-2 (
-  judge-definition-reads.Asked,
-  judge-definition-reads.Learnt,
-  judge-below t,
-  judge.Post,
-  judge-long-reads.Asked,
-  judge-long-reads.Learnt,
-  judge-any-reads.Asked,
-  judge-any-reads.Learnt,
-) (judge-at t) judge.Post
-judge-returns-2 t c = c .before .before .judge .ensures
-
-judge-judge-long-requires : (t : ℕ) → judge-lts.Need-judge-long-requires (
-  judge-definition-reads.Asked,
-  judge-definition-reads.Learnt,
-  judge-below t,
-  judge.Post,
-  judge-long-reads.Asked,
-  judge-long-reads.Learnt,
-  judge-any-reads.Asked,
-  judge-any-reads.Learnt,
-) (judge-at t) judge.Post
-judge-judge-long-requires t c κs = search needs
-
-judge-enum-told-2 : (t : ℕ) → judge-lts.Need-enum-told-2 (
-  judge-definition-reads.Asked,
-  judge-definition-reads.Learnt,
-  judge-below t,
-  judge.Post,
-  judge-long-reads.Asked,
-  judge-long-reads.Learnt,
-  judge-any-reads.Asked,
-  judge-any-reads.Learnt,
-) (judge-at t) judge.Post
-judge-enum-told-2 t c = c .match2 .keys1
-
-judge-returns-3 : (t : ℕ) → judge-lts.Need-returns-3 (
-  judge-definition-reads.Asked,
-  judge-definition-reads.Learnt,
-  judge-below t,
-  judge.Post,
-  judge-long-reads.Asked,
-  judge-long-reads.Learnt,
-  judge-any-reads.Asked,
-  judge-any-reads.Learnt,
-) (judge-at t) judge.Post
-judge-returns-3 t c = judges-told (c .before .judge-long .ensures) (λ e. other-tag _ (c .match2 .keys2) (rw e))
-
-judge-judge-requires-2 : (t : ℕ) → judge-lts.Need-judge-requires-2 (
-  judge-definition-reads.Asked,
-  judge-definition-reads.Learnt,
-  judge-below t,
-  judge.Post,
-  judge-long-reads.Asked,
-  judge-long-reads.Learnt,
-  judge-any-reads.Asked,
-  judge-any-reads.Learnt,
-) (judge-at t) judge.Post
-judge-judge-requires-2 t c κs = search needs
-
-judge-same-length-3 : (t : ℕ) → judge-lts.Need-same-length-3 (
-  judge-definition-reads.Asked,
-  judge-definition-reads.Learnt,
-  judge-below t,
-  judge.Post,
-  judge-long-reads.Asked,
-  judge-long-reads.Learnt,
-  judge-any-reads.Asked,
-  judge-any-reads.Learnt,
-) (judge-at t) judge.Post
-judge-same-length-3 t c = search needs
-
-judge-returns-4 : (t : ℕ) → judge-lts.Need-returns-4 (
-  judge-definition-reads.Asked,
-  judge-definition-reads.Learnt,
-  judge-below t,
-  judge.Post,
-  judge-long-reads.Asked,
-  judge-long-reads.Learnt,
-  judge-any-reads.Asked,
-  judge-any-reads.Learnt,
-) (judge-at t) judge.Post
-judge-returns-4 t c = c .before .before .judge2 .ensures
-
-judge-judge-any-requires : (t : ℕ) → judge-lts.Need-judge-any-requires (
-  judge-definition-reads.Asked,
-  judge-definition-reads.Learnt,
-  judge-below t,
-  judge.Post,
-  judge-long-reads.Asked,
-  judge-long-reads.Learnt,
-  judge-any-reads.Asked,
-  judge-any-reads.Learnt,
-) (judge-at t) judge.Post
-judge-judge-any-requires t c κs = search needs
-
-judge-returns-5 : (t : ℕ) → judge-lts.Need-returns-5 (
-  judge-definition-reads.Asked,
-  judge-definition-reads.Learnt,
-  judge-below t,
-  judge.Post,
-  judge-long-reads.Asked,
-  judge-long-reads.Learnt,
-  judge-any-reads.Asked,
-  judge-any-reads.Learnt,
-) (judge-at t) judge.Post
-judge-returns-5 t c = c .judge-any .ensures
-
-pub +judge-spec : {M : Type 1} → statement M
-+judge-spec = close μ-judge λ t. judge-lts.spec (
+-- what the functions that are called ask and tell
+abbrev calls : ℕ → judge-lts.Claims
+calls t = (
   judge-definition-reads.Asked,
   judge-definition-reads.Learnt,
   judge-below t,
@@ -213,6 +36,54 @@ pub +judge-spec : {M : Type 1} → statement M
   judge-any-reads.Asked,
   judge-any-reads.Learnt,
 )
+
+judge-judge-definition-requires : (t : ℕ) → judge-lts.Need-judge-definition-requires (calls t) (judge-at t) judge.Post
+judge-judge-definition-requires t c κs = search needs
+
+judge-enum-told : (t : ℕ) → judge-lts.Need-enum-told (calls t) (judge-at t) judge.Post
+judge-enum-told t c = c .match .keys1
+
+judge-same-length : (t : ℕ) → judge-lts.Need-same-length (calls t) (judge-at t) judge.Post
+judge-same-length t c = search needs
+
+judge-returns : (t : ℕ) → judge-lts.Need-returns (calls t) (judge-at t) judge.Post
+judge-returns t c = settled-full (c .before .before .before .judge-definition .ensures) (λ e. other-tag _ (c .match .keys2) (rw e))
+
+judge-judge-requires : (t : ℕ) → judge-lts.Need-judge-requires (calls t) (judge-at t) judge.Post
+judge-judge-requires t c κs = search needs
+
+judge-same-length-2 : (t : ℕ) → judge-lts.Need-same-length-2 (calls t) (judge-at t) judge.Post
+judge-same-length-2 t c = search needs
+
+judge-returns-2 : (t : ℕ) → judge-lts.Need-returns-2 (calls t) (judge-at t) judge.Post
+judge-returns-2 t c = c .before .before .judge .ensures
+
+judge-judge-long-requires : (t : ℕ) → judge-lts.Need-judge-long-requires (calls t) (judge-at t) judge.Post
+judge-judge-long-requires t c κs = search needs
+
+judge-enum-told-2 : (t : ℕ) → judge-lts.Need-enum-told-2 (calls t) (judge-at t) judge.Post
+judge-enum-told-2 t c = c .match2 .keys1
+
+judge-returns-3 : (t : ℕ) → judge-lts.Need-returns-3 (calls t) (judge-at t) judge.Post
+judge-returns-3 t c = judges-told (c .before .judge-long .ensures) (λ e. other-tag _ (c .match2 .keys2) (rw e))
+
+judge-judge-requires-2 : (t : ℕ) → judge-lts.Need-judge-requires-2 (calls t) (judge-at t) judge.Post
+judge-judge-requires-2 t c κs = search needs
+
+judge-same-length-3 : (t : ℕ) → judge-lts.Need-same-length-3 (calls t) (judge-at t) judge.Post
+judge-same-length-3 t c = search needs
+
+judge-returns-4 : (t : ℕ) → judge-lts.Need-returns-4 (calls t) (judge-at t) judge.Post
+judge-returns-4 t c = c .before .before .judge2 .ensures
+
+judge-judge-any-requires : (t : ℕ) → judge-lts.Need-judge-any-requires (calls t) (judge-at t) judge.Post
+judge-judge-any-requires t c κs = search needs
+
+judge-returns-5 : (t : ℕ) → judge-lts.Need-returns-5 (calls t) (judge-at t) judge.Post
+judge-returns-5 t c = c .judge-any .ensures
+
+pub +judge-spec : {M : Type 1} → statement M
++judge-spec = close μ-judge λ t. judge-lts.spec (calls t)
     (judge-at t)
     judge.Post
     (judge-judge-definition-requires t)

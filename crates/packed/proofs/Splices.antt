@@ -89,27 +89,6 @@ module _ {A : Type 0} where
       let e₅ : i + n + t + c ≡ live = live-end i old n live h g in
       ew ∙ rw (e₁, e₂, p, q, v, e₃, e₄, e₅) (simp append-assoc)
 
-  -- one element put in
-  pub spliced-one-in : (blank : A) (l x : List A) (v : A) (i live : ℕ) → i ≤ live → live < length l → x ≡ paste l (i + 1) (drop i l) (live - i)
-      → set x i v ≡ spliced blank l i 0 (v ∷ []) live
-  spliced-one-in blank l x v i live h k ex =
-      let d : length (drop i l) ≡ length l - i = length-drop i l in
-      let lx : length x ≡ length l = ap length ex ∙ length-paste l (i + 1) (drop i l) (live - i) (omega arith) (omega arith) in
-      let e : i + 0 ≡ i = add-zero i in
-      spliced-grown blank l x (set x i v) (v ∷ []) i 0 live (omega arith) (omega arith) (omega arith) (omega arith) (rw e ex)
-      (rw (add-one, append-assoc) (set-split x i v (omega arith)))
-
-  -- one element taken out
-  pub spliced-one-out : (blank : A) (l x : List A) (i live : ℕ) → i < live → live ≤ length l → x ≡ paste l i (drop (i + 1) l) (live - (i + 1))
-      → set x (live - 1) blank ≡ spliced blank l i 1 [] live
-  spliced-one-out blank l x i live h k ex =
-      let d : length (drop (i + 1) l) ≡ length l - (i + 1) = length-drop (i + 1) l in
-      let lx : length x ≡ length l = ap length ex ∙ length-paste l i (drop (i + 1) l) (live - (i + 1)) (omega arith) (omega arith) in
-      let e : i + 0 ≡ i = add-zero i in
-      let c : live - (live - 1) ≡ 1 = omega arith in
-      spliced-shrunk blank l x x (set x (live - 1) blank) [] i 1 live (omega arith) (omega arith) (omega arith) (rw e ex) (paste-zero x i [])
-      (rw c (rw (add-one, append-assoc) (set-split x (live - 1) blank (omega arith))))
-
   -- its length
   pub length-spliced : (blank : A) (l xs : List A) (i old live : ℕ) → i + old ≤ live → live ≤ length l → liveAfter old xs live ≤ length l
       → length (spliced blank l i old xs live) ≡ length l

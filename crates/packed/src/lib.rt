@@ -52,7 +52,7 @@ fn copy_to(b: &mut [u8], at: usize, src: &[u8])
 }
 
 // Clears the bytes from `from` to before `to`.
-fn clear(b: &mut [u8], from: usize, to: usize)
+pub fn clear(b: &mut [u8], from: usize, to: usize)
     requires { ⌜ to ≤ length (now b) ⌝ }
     ensures { λ _. ⌜ now (b .exit) ≡ paste (now (b .entry)) from (replicate (to - from) 0) (to - from) ⌝ }
 {
@@ -199,4 +199,16 @@ pub fn replace(records: &mut [[u32; 4]], at: usize, r: Record)
     ensures { λ _. ⌜ now (records .exit) ≡ set (now (records .entry)) at (numbersOf r) ⌝ }
 {
     records[at] = numbers_of(r);
+}
+
+// Clears the records from `from` to before `to`.
+pub fn clear_records(records: &mut [[u32; 4]], from: usize, to: usize)
+    requires { ⌜ to ≤ length (now records) ⌝ }
+    ensures { λ _. ⌜ now (records .exit) ≡ paste (now (records .entry)) from (replicate (to - from) blankRecord) (to - from) ⌝ }
+{
+    let mut i = from;
+    while i < to {
+        records[i] = [0u32; 4];
+        i += 1;
+    }
 }

@@ -24,14 +24,17 @@ pub enough : {s : List ℕ} {sh right r : Judged} (n : ℕ) → length s ≤ n �
 enough n h (full e) = e
 enough {s} n h (over e l) = absurd (never n s h l)
 
--- with fewer the answer is right, or says that they are too few
-pub tried : {s w : List ℕ} {i : ℕ} {r : Judged} → Settled s w Short (judgedOf (definitionAt s i)) r → Judges s i r
-tried (full e) = told e
-tried (over e l) = short e
+fewer : (n : ℕ) (s : List ℕ) → length {A = ℕ} (replicate n 0) < length s → n < length s
+fewer n s l = omega (arith, length-replicate {A = ℕ} n 0)
 
-pub judges-told : {s : List ℕ} {i : ℕ} {r : Judged} → Judges s i r → (r ≡ Short → ⊥) → r ≡ judgedOf (definitionAt s i)
+-- with n of them the answer is right, or they are fewer than the text's bytes
+pub tried : {s : List ℕ} {i : ℕ} {r : Judged} (n : ℕ) → Settled s (replicate n 0) Short (judgedOf (definitionAt s i)) r → Judges n s i r
+tried n (full e) = told e
+tried {s} n (over e l) = short e (fewer n s l)
+
+pub judges-told : {n : ℕ} {s : List ℕ} {i : ℕ} {r : Judged} → Judges n s i r → (r ≡ Short → ⊥) → r ≡ judgedOf (definitionAt s i)
 judges-told (told e) h = e
-judges-told (short e) h = absurd (h e)
+judges-told (short e l) h = absurd (h e)
 
 -- the tag of an answer that tells something is not that of `Short`
 pub other-tag : (t : ℕ) → (t ≡ 0) ⊎ (t ≡ 1) ⊎ (t ≡ 2) → t ≡ 3 → ⊥

@@ -89,7 +89,7 @@ fn judge_any(s: &[u8], at: usize) -> Judged
 
 // With work bytes for a long definition.
 fn judge_long(s: &[u8], at: usize) -> Judged
-    ensures { λ r. ⌜ Judges (now (s .entry)) at r ⌝ }
+    ensures { λ r. ⌜ Judges 4194304 (now (s .entry)) at r ⌝ }
 {
     let mut work = [0u8; 4194304];
     judge_definition(s, at, &mut work)

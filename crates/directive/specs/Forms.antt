@@ -93,7 +93,7 @@ timescaleForm s i = timescaleBy s (timeAt s i)
 abbrev pub entry : ℕ → Value → ℕ → Form
 entry n v e = cond (eqb n Unknown) Unformed (Formed v e)
 
--- one word of a kind k: a net type, a drive, a version
+-- one word of a table: a net type, a drive, a version
 abbrev pub nettypeBy : List ℕ → Word → Form
 nettypeBy s (word.Found t) =
     cond (is Name t) (entry (nettypeOf (part s (t .at) (t .end))) (NetType (nettypeOf (part s (t .at) (t .end)))) (t .end))

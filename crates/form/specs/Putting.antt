@@ -14,7 +14,7 @@ use Rattle.form.specs.Forms.{formOf, textStart}
 use Rattle.form.specs.declared.FormWritten.{FormWritten}
 use Rattle.form.specs.declared.FormWritten.the-variants as written
 
--- the buffer o became o′, ys put behind its first n, which are m then
+-- the buffer o became o′, ys put behind its first n, which are m then; what stands behind those is left open
 pub record Put (o o′ : List ℕ) (n m : ℕ) (ys : List ℕ) : Type 0 where
   pub count : m ≡ n + length ys
   pub fits : m ≤ length o

@@ -47,7 +47,7 @@ fn put_byte(out: &mut [u8], from: usize, n: usize, b: u8) -> Stored
 }
 
 // Adds the bytes of `s` from `at` to before `end`.
-pub fn put_bytes(s: &[u8], at: usize, end: usize, out: &mut [u8], from: usize, n: usize) -> Stored
+fn put_bytes(s: &[u8], at: usize, end: usize, out: &mut [u8], from: usize, n: usize) -> Stored
     requires { ⌜ (from ≤ n) × (n ≤ length (now out)) ⌝ }
     ensures { λ r. ⌜ AddedBy r (now (out .entry)) (now (out .exit)) from n (part (now (s .entry)) at end) ⌝ }
 {

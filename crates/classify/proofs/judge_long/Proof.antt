@@ -15,7 +15,7 @@ judge-definition-requires : tie.Need-judge-definition-requires
 judge-definition-requires c κs = tt
 
 returns : tie.Need-returns
-returns c = tried (c .before .judge-definition .ensures)
+returns c = tried 4194304 (c .before .judge-definition .ensures)
 
 pub judge-long-spec : {M : Type 1} → statement M
 judge-long-spec =

@@ -1,13 +1,6 @@
-use mathlib.Core.Path.{sym}
-use mathlib.Core.Path.{_≡_}
-use Prim.Native.Nat.{ℕ}
-use lib.ListN.{length, replicate, length-replicate}
+use Rattle.classify.proofs.Filled.{filled}
 use Rattle.words.proofs.main.Statement.{statement}
 use Rattle.words.proofs.main.Tie as tie
-
--- a repeat has as many elements as it says
-filled : (n : ℕ) → n ≡ length {A = ℕ} (replicate n 0)
-filled n = sym (length-replicate n 0)
 
 slice-aggregate-read-and-run : tie.Need-slice-aggregate-read-and-run
 slice-aggregate-read-and-run c = filled 1048577

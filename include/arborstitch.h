@@ -49,8 +49,8 @@ struct arborstitch_classified {
  * them. set is the keyword set at the start. Neither pointer is null, also where its count is
  * 0. Nothing but the words written is touched.
  *
- * Stack: some 128 KiB; 4.2 MiB where over 64 KiB are stored of one `define in the text; 17 MiB
- * where over 4 MiB are. With less the system ends the process. */
+ * Stack: some 64 KiB; 4.2 MiB where a default of a `define in the text has over 65,536 brackets
+ * open at once. With less the system ends the process. */
 struct arborstitch_classified classify(const uint8_t *text, size_t size, uint32_t set,
                                        struct arborstitch_word *words, size_t lent);
 

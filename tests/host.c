@@ -81,12 +81,35 @@ static void sizes(void) {
     text[LARGEST - 1] = 128;
     memset(text, '\n', 1000);
     expect("a bad byte at its end", run(text, LARGEST, 3, words, 1), 2, 1001, LARGEST - 1, 0);
-    /* a definition longer than the work bytes of a usual one */
-    memset(text, 'x', 4000000);
+    /* one definition, of which nearly all is stored; then one of a bad name, whose other words are listed */
+    memset(text, 'x', LARGEST);
     memcpy(text, "`define A /**/ ", 15);
-    for (size_t i = 100; i < 4000000; i += 100) text[i] = ' ';
-    text[4000000] = '\n';
-    expect("a long definition", run(text, 4000001, 3, words, 1), 0, 0, 0, 0);
+    for (size_t i = 100; i < LARGEST; i += 100) text[i] = ' ';
+    expect("a long definition", run(text, LARGEST, 3, words, 1), 0, 0, 0, 0);
+    text[8] = '1';
+    expect("a long bad definition", run(text, LARGEST, 3, words, 1), 21, 1, 100 + 1, 1);
+    /* a string, and a run between quote marks, over escaped newlines all along */
+    for (size_t i = 0; i + 3 <= LARGEST; i += 3) memcpy(text + i, "1\\\n", 3);
+    memcpy(text, "`define A \"1", 12);
+    memcpy(text + LARGEST - 3, "x\" ", 3);
+    expect("a long string", run(text, LARGEST, 3, words, 1), 0, 0, 0, 0);
+    memcpy(text, "`define A `\"", 12);
+    memcpy(text + LARGEST - 3, "x`\"", 3);
+    expect("a long run between quote marks", run(text, LARGEST, 3, words, 1), 0, 0, 0, 0);
+    memcpy(text + LARGEST - 3, "x  ", 3);
+    expect("an odd number of quote marks", run(text, LARGEST, 3, words, 1), 4, 1, 10, 1);
+    /* a default with brackets as deep as a text can have them */
+    size_t deep = (LARGEST - 14) / 2;
+    memset(text, ' ', LARGEST);
+    memcpy(text, "`define A(x=", 12);
+    for (size_t i = 0; i < deep; i++) {
+        text[12 + i] = "([{"[i % 3];
+        text[11 + 2 * deep - i] = ")]}"[i % 3];
+    }
+    text[12 + 2 * deep] = ')';
+    expect("deep brackets", run(text, LARGEST, 3, words, 1), 0, 0, 0, 0);
+    text[12 + deep] = '?';
+    expect("deep brackets unmatched", run(text, LARGEST, 3, words, 1), 21, 1, 10, 1);
     static const uint32_t none_of_the_four[] = {4, 5, 1000, 0x7FFFFFFF, 0x80000000, 0xFFFFFFFF};
     for (size_t i = 0; i < sizeof none_of_the_four / sizeof *none_of_the_four; i++)
         expect("a set that is none", run(text, 5, none_of_the_four[i], words, 1), 1, 0, 0, 0);

@@ -11,7 +11,7 @@ use Rattle.names.specs.Names.{numberIn, macroDirectives, stateDirectives, other
 use Rattle.directive.specs.Words.{wordIn, wordAt}
 use Rattle.directive.specs.Forms.{versionForm, aloneValue, formAt}
 use Rattle.storing.specs.Stored.{piece, pieces, trimLeft, trimRight, stored}
-use Rattle.storing.specs.Judging.{badIn, badText}
+use Rattle.afresh.specs.Judging.{badIn, badText}
 use Rattle.definition.specs.Extents.{extentIn, extentAt, barsOf}
 use Rattle.definition.specs.Heads.{gapIn, gapEnd, openAt, headAt}
 use Rattle.definition.specs.Definitions.{parametersOf, badFormals, definitionAt}

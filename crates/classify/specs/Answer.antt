@@ -1,23 +1,14 @@
 -- Classify's answer: 01's number, "line from 1, byte from 0", and the words written.
 -- Assumes nothing.
-use Prim.Native.Nat.{ℕ, _+_, _<_, _≤_}
-use mathlib.Core.Bool.{Bool, cond, _||_}
+use Prim.Native.Nat.{ℕ, _+_, _≤_}
+use mathlib.Core.Bool.{cond, _||_}
 use mathlib.Core.Path.{_≡_}
 use mathlib.Core.List.{List, [], _∷_, _++_}
 use lib.Dec.{eqb, leb, ltb}
 use lib.ListN.{length, take, drop}
-use Rattle.definition.specs.Definitions.{definitionAt}
-use Rattle.definition.specs.Answers.{judgedOf}
-use Rattle.definition.specs.declared.Judged.{Judged}
-use Rattle.definition.specs.declared.Judged.the-variants.{Short}
 use Rattle.classify.specs.Words.{Words, ends, bit, wordsOf}
 use Rattle.classify.specs.declared.Ended.{Ended}
 use Rattle.classify.specs.declared.Classified.{Classified}
-
--- the judged definition; or `Short`, and then n work bytes are fewer than those of the text
-pub data Judges (n : ℕ) (s : List ℕ) (i : ℕ) (r : Judged) : Type 0 where
-  told : r ≡ judgedOf (definitionAt s i) → Judges n s i r
-  short : r ≡ Short → n < length s → Judges n s i r
 
 -- the newlines among bytes
 unfoldable pub newlines : List ℕ → ℕ

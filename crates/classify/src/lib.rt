@@ -8,7 +8,7 @@ ghost use Rattle.definition.specs.Definitions.{definitionAt};
 ghost use Rattle.definition.specs.Answers.{judgedOf};
 ghost use Rattle.keywords.specs.Tables.{Tables};
 ghost use Rattle.classify.specs.Words.{setBy, byForm, byDefinition, pastDirective, pastGrave, wordOf, bit, wordsOf};
-ghost use Rattle.classify.specs.Answer.{Judges, Counted, newlines, lineAt, outcomeOf, Listed, Answered};
+ghost use Rattle.classify.specs.Answer.{Counted, newlines, lineAt, outcomeOf, Listed, Answered};
 use definition::Judged;
 use definition::judge_definition;
 use directive::Form;
@@ -78,52 +78,44 @@ fn past_form(f: Form, start: usize, set: usize, at: usize) -> Past
     }
 }
 
-// The definition whose word ends at `at`, judged with work bytes that are enough for any text.
-fn judge_any(s: &[u8], at: usize) -> Judged
-    requires { ⌜ length (now s) ≤ 16777215 ⌝ }
+// The definition whose word ends at `at`, judged with bytes for the brackets of any text.
+fn judge_deep(s: &[u8], at: usize, name: &mut [u8]) -> Judged
+    requires { ⌜ (length (now s) ≤ 16777215) × (1025 ≤ length (now name)) ⌝ }
     ensures { λ r. ⌜ r ≡ judgedOf (definitionAt (now (s .entry)) at) ⌝ }
 {
-    let mut work = [0u8; 16777215];
-    judge_definition(s, at, &mut work)
+    let mut stack = [0u8; 4194304];
+    judge_definition(s, at, name, &mut stack)
 }
 
-// With work bytes for a long definition.
-fn judge_long(s: &[u8], at: usize) -> Judged
-    ensures { λ r. ⌜ Judges 4194304 (now (s .entry)) at r ⌝ }
-{
-    let mut work = [0u8; 4194304];
-    judge_definition(s, at, &mut work)
-}
-
-// With the lent work bytes first, then with more. It calls itself so that the large arrays stay out of its own frame
-// and its callers': LLVM moves none into a function that does.
-fn judge(s: &[u8], at: usize, work: &mut [u8], tries: usize) -> Judged
-    requires { ⌜ length (now s) ≤ 16777215 ⌝ }
+// With the lent bytes for brackets first, then with more. `tries` is 2 at first. It calls itself, and not as the last thing it
+// does, so that the large array stays out of its own frame and its callers': LLVM moves none into a function that does.
+fn judge(s: &[u8], at: usize, name: &mut [u8], stack: &mut [u8], tries: usize) -> Judged
+    requires { ⌜ (length (now s) ≤ 16777215) × (1025 ≤ length (now name)) ⌝ }
     ensures { λ r. ⌜ r ≡ judgedOf (definitionAt (now (s .entry)) at) ⌝ }
 {
-    if tries == 2 {
-        let r = judge_definition(s, at, work);
-        let Judged::Short = r else {
-            return r;
-        };
-        return judge(s, at, work, 1);
+    if tries == 0 {
+        return judge_deep(s, at, name);
     }
     if tries == 1 {
-        let r = judge_long(s, at);
+        let r = judge_definition(s, at, name, stack);
         let Judged::Short = r else {
             return r;
         };
-        return judge(s, at, work, 0);
+        return judge(s, at, name, stack, 0);
     }
-    judge_any(s, at)
+    let r = judge(s, at, name, stack, 1);
+    let Judged::Short = r else {
+        return r;
+    };
+    judge(s, at, name, stack, 0)
 }
 
 // Past the definition whose word ends at `at`.
-fn past_definition(s: &[u8], at: usize, set: usize, work: &mut [u8]) -> Past
-    requires { ⌜ length (now s) ≤ 16777215 ⌝ }
+fn past_definition(s: &[u8], at: usize, set: usize, name: &mut [u8], stack: &mut [u8]) -> Past
+    requires { ⌜ (length (now s) ≤ 16777215) × (1025 ≤ length (now name)) ⌝ }
     ensures { λ r. ⌜ r ≡ byDefinition set at (definitionAt (now (s .entry)) at) ⌝ }
 {
-    let r = judge(s, at, work, 2);
+    let r = judge(s, at, name, stack, 2);
     match r {
         Judged::Barred(n, p) => Past::Stop(n, p),
         Judged::Bad(_) => Past::On(at, set),
@@ -133,23 +125,38 @@ fn past_definition(s: &[u8], at: usize, set: usize, work: &mut [u8]) -> Past
 }
 
 // Past the directive `d` whose word ends at `at`.
-fn past_directive(d: usize, s: &[u8], at: usize, start: usize, set: usize, work: &mut [u8]) -> Past
-    requires { ⌜ length (now s) ≤ 16777215 ⌝ }
+fn past_directive(
+    d: usize,
+    s: &[u8],
+    at: usize,
+    start: usize,
+    set: usize,
+    name: &mut [u8],
+    stack: &mut [u8],
+) -> Past
+    requires { ⌜ (length (now s) ≤ 16777215) × (1025 ≤ length (now name)) ⌝ }
     ensures { λ r. ⌜ r ≡ pastDirective d start set (now (s .entry)) at ⌝ }
 {
     if d == DEFINE {
-        return past_definition(s, at, set, work);
+        return past_definition(s, at, set, name, stack);
     }
     past_form(form_at(d, s, at), start, set, at)
 }
 
 // Past the grave accent name `t`.
-fn past_grave(s: &[u8], t: Token, start: usize, set: usize, work: &mut [u8]) -> Past
-    requires { ⌜ length (now s) ≤ 16777215 ⌝ }
+fn past_grave(
+    s: &[u8],
+    t: Token,
+    start: usize,
+    set: usize,
+    name: &mut [u8],
+    stack: &mut [u8],
+) -> Past
+    requires { ⌜ (length (now s) ≤ 16777215) × (1025 ≤ length (now name)) ⌝ }
     ensures { λ r. ⌜ r ≡ pastGrave start set (now (s .entry)) t ⌝ }
 {
     let d = directive_of(part_of(s, t.from, t.end));
-    past_directive(d, s, t.end, start, set, work)
+    past_directive(d, s, t.end, start, set, name, stack)
 }
 
 fn bit_of(b: bool) -> u32
@@ -184,7 +191,7 @@ fn make_ended(number: usize, place: usize, words: usize) -> Ended
     }
 }
 
-// Lists the words of a text in the keyword set `start`, by the three keyword tables, with work bytes for definitions.
+// Lists the words of a text in the keyword set `start`, by the three keyword tables, with bytes for the names and brackets of definitions.
 fn list_words(
     s: &[u8],
     start: usize,
@@ -192,9 +199,10 @@ fn list_words(
     bytes: &[u8],
     starts: &[usize],
     firsts: &[usize],
-    work: &mut [u8],
+    name: &mut [u8],
+    stack: &mut [u8],
 ) -> Ended
-    requires { ⌜ (length (now s) ≤ 16777215) × Tables (now bytes) (now starts) (now firsts) ⌝ }
+    requires { ⌜ (length (now s) ≤ 16777215) × (1025 ≤ length (now name)) × Tables (now bytes) (now starts) (now firsts) ⌝ }
     ensures { λ r. ⌜ Listed start (now (s .entry)) (now (words .entry)) (now (words .exit)) r ⌝ }
 {
     let mut i = 0;
@@ -218,7 +226,7 @@ fn list_words(
             i = t.end;
             continue;
         }
-        let p = past_grave(s, t, start, set, work);
+        let p = past_grave(s, t, start, set, name, stack);
         match p {
             Past::On(e, v) => {
                 i = e;
@@ -271,12 +279,13 @@ fn classify_with(
     bytes: &[u8],
     starts: &[usize],
     firsts: &[usize],
-    work: &mut [u8],
+    name: &mut [u8],
+    stack: &mut [u8],
 ) -> Classified
-    requires { ⌜ (length (now text) ≤ 16777215) × Tables (now bytes) (now starts) (now firsts) ⌝ }
+    requires { ⌜ (length (now text) ≤ 16777215) × (1025 ≤ length (now name)) × Tables (now bytes) (now starts) (now firsts) ⌝ }
     ensures { λ r. ⌜ Answered (now (text .entry)) (wordsOf set (now (text .entry)) (length (now (words .entry)))) (now (words .entry)) (now (words .exit)) r ⌝ }
 {
-    let e = list_words(text, set, words, bytes, starts, firsts, work);
+    let e = list_words(text, set, words, bytes, starts, firsts, name, stack);
     Classified {
         number: e.number,
         line: line_of(text, e.number, e.place),
@@ -293,8 +302,18 @@ fn classify_taken(text: &[u8], set: usize, words: &mut [[u32; 3]]) -> Classified
     let bytes = BYTES;
     let starts = STARTS;
     let firsts = FIRSTS;
-    let mut work = [0u8; 65536];
-    classify_with(text, set, words, &bytes, &starts, &firsts, &mut work)
+    let mut name = [0u8; 1025];
+    let mut stack = [0u8; 16384];
+    classify_with(
+        text,
+        set,
+        words,
+        &bytes,
+        &starts,
+        &firsts,
+        &mut name,
+        &mut stack,
+    )
 }
 
 // Every plain name of `text` outside directives, as offset, length and 1 if the keyword set in force reserves it, else

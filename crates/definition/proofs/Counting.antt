@@ -16,7 +16,7 @@ use Rattle.definition.specs.declared.ListRead.the-variants as list
 use Rattle.definition.specs.Lists.{formalAt, Formals, ill, whole, also, formalsAt, behind}
 use Rattle.definition.specs.Definitions.{shapeBy}
 use Rattle.definition.specs.Answers.{Settled, full, over, listOf}
-use Rattle.definition.proofs.Settling.{settled-full, settled-over}
+use Rattle.definition.proofs.Settling.{full-lent, settled-full, settled-over}
 use Rattle.definition.proofs.Formals.{formal-full, formal-inside, formals-ill, formals-out, formals-next, behind-last, behind-more}
 
 -- a list with n formals before it
@@ -59,9 +59,7 @@ module _ {s lent work : List ℕ} {from i n : ℕ} (d : Counted s from lent work
 
     pub counted-short : r ≡ formal.Short → Listed list.Short
     counted-short q =
-        let l : length work < length s = settled-over v q (formal-full s i) in
-        let e = d .same in
-        over refl (omega arith)
+        over refl (full-lent work lent (length s) (d .same) (settled-over v q (formal-full s i)))
 
     pub counted-ill : r ≡ formal.IllFormed → Listed list.IllFormed
     unfolding atop

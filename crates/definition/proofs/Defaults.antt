@@ -1,6 +1,6 @@
 -- A default and a formal, as they are read: the closing brackets due are in lent bytes, and never more than the bytes read.
 -- Assumes nothing.
-use Prim.Native.Nat.{ℕ, _+_, _<_, _≤_}
+use Prim.Native.Nat.{ℕ, _+_, _*_, _<_, _≤_}
 use mathlib.Core.Bool.{Bool, true, false, _||_}
 use mathlib.Core.List.{List}
 use mathlib.Core.Path.{_≡_, refl, sym, ap, _∙_}
@@ -11,23 +11,24 @@ use borrow.Author.Tests.{eq-eqb, ne-eqb}
 use Rattle.lex.specs.declared.Mode.{Mode}
 use Rattle.lex.specs.declared.Token.{Token}
 use Rattle.lex.specs.Tokens.{inDefinition, Name, Newline, isByte, tokenAt, tokens}
+use Rattle.brackets.specs.Stacks.{stackOf, SteppedBy}
+use Rattle.brackets.specs.declared.Stepped.{Stepped}
+use Rattle.brackets.specs.declared.Stepped.the-variants as stepped
+use Rattle.brackets.proofs.Stacking.{full-more, stepped-on, stepped-done, stepped-torn, stepped-short}
 use Rattle.definition.specs.declared.Ending.{Ending}
 use Rattle.definition.specs.declared.Ending.the-variants as ending
 use Rattle.definition.specs.declared.FormalRead.{FormalRead}
 use Rattle.definition.specs.declared.FormalRead.the-variants as formal
-use Rattle.definition.specs.declared.Stepped.{Stepped}
-use Rattle.definition.specs.declared.Stepped.the-variants as stepped
 use Rattle.definition.specs.Heads.{gapEnd, nextAt}
 use Rattle.definition.specs.Lists.{stepAt, defaultIn, defaultEnd, givenFormal, formalBy, formalAt}
-use Rattle.definition.specs.Answers.{Settled, full, over, stackOf, SteppedBy}
-use Rattle.definition.proofs.Settling.{settled-through}
-use Rattle.definition.proofs.Stacking.{stepped-on, stepped-done, stepped-torn, stepped-short}
+use Rattle.definition.specs.Answers.{Settled, full, over}
+use Rattle.definition.proofs.Settling.{full-lent, settled-through}
 use Rattle.definition.proofs.Reading.{token-goes, default-out, default-newline, default-on, default-done, default-torn}
 
 -- the default that starts at `from` is read up to i, `depth` brackets are due, in bytes lent as `lent`
 pub record Due (s : List ℕ) (from : ℕ) (lent work : List ℕ) (i depth : ℕ) : Type 0 where
   pub same : length work ≡ length lent
-  pub fits : depth ≤ length work
+  pub fits : depth ≤ 4 * length work
   pub passed : depth + from ≤ i
   pub rest : defaultIn s (stackOf work depth) (tokens inDefinition s i) ≡ defaultEnd s from
 
@@ -62,16 +63,16 @@ module _ {s lent work : List ℕ} {from i depth : ℕ} (d : Due s from lent work
 
       pub due-done : r ≡ stepped.Done → Told (ending.Upto (t .at) (t .end))
       due-done q =
-          full (sym (default-done s i m t h f e (stackOf work depth) k (stepped-done r (stepAt s t (stackOf work depth)) work work′ depth b q)) ∙ d .rest)
+          full (sym (default-done s i m t h f e (stackOf work depth) k (stepped-done r (stepAt s t (stackOf work depth)) work work′ depth b q .0)) ∙ d .rest)
 
       pub due-torn : r ≡ stepped.Torn → Told ending.Torn
       due-torn q =
-          full (sym (default-torn s i m t h f e (stackOf work depth) k (stepped-torn r (stepAt s t (stackOf work depth)) work work′ depth b q)) ∙ d .rest)
+          full (sym (default-torn s i m t h f e (stackOf work depth) k (stepped-torn r (stepAt s t (stackOf work depth)) work work′ depth b q .0)) ∙ d .rest)
 
       pub due-short : r ≡ stepped.Short → Told ending.Short
       due-short q =
-          let p : length work ≤ depth = stepped-short r (stepAt s t (stackOf work depth)) work work′ depth b q in
-          over refl (omega arith)
+          let p = stepped-short r (stepAt s t (stackOf work depth)) work work′ depth b q in
+          over refl (full-lent work lent (length s) (d .same) (full-more work depth (length s) p (omega arith)))
 
 -- the formal t, whose default starts at a, by the end r of that
 module _ (t : Token) (a : ℕ) {s work : List ℕ} {r : Ending} (d : Settled s work ending.Short (defaultEnd s a) r) where

@@ -12,20 +12,22 @@ use Rattle.text.specs.Bytes.{part}
 use Rattle.lex.specs.declared.Fault.{Fault}
 use Rattle.names.specs.Names.{directiveOf, isDirective}
 use Rattle.storing.specs.Stored.{stored}
-use Rattle.storing.specs.Judging.{badText}
+use Rattle.brackets.specs.Stacks.{Full}
+use Rattle.afresh.specs.Judging.{badText}
+use Rattle.afresh.specs.Feeding.{verdictOf}
+use Rattle.afresh.specs.declared.Verdict.{Verdict}
+use Rattle.afresh.specs.declared.Verdict.the-variants as verdict
 use Rattle.definition.specs.Extents.{extentAt, barsOf}
 use Rattle.definition.specs.Heads.{headAt}
 use Rattle.definition.specs.Lists.{Formals, ill, whole, formalsAt}
 use Rattle.definition.specs.Definitions.{Definition, macro, bad, good, parametersOf, badFormals, isBad, shapeBy, textAt, judgedBy, definedBy, unlessBarred, definitionAt}
-use Rattle.definition.specs.Answers.{Settled, full, over, listOf, verdictOf, judgedOf}
+use Rattle.definition.specs.Answers.{Settled, full, over, listOf, judgedOf}
 use Rattle.definition.specs.declared.Extent.{Extent}
 use Rattle.definition.specs.declared.Head.{Head}
 use Rattle.definition.specs.declared.Formal.{Formal}
 use Rattle.definition.specs.declared.ListRead.{ListRead}
 use Rattle.definition.specs.declared.ListRead.the-variants as list
 use Rattle.definition.specs.declared.Judged.the-variants as judged
-use Rattle.definition.specs.declared.Verdict.{Verdict}
-use Rattle.definition.specs.declared.Verdict.the-variants as verdict
 use Rattle.definition.proofs.Settling.{settled-full, settled-over}
 use Rattle.definition.proofs.Verdicts.{or-first, or-next, told-bad, told-good, told-short}
 
@@ -66,7 +68,7 @@ module _ (g : Formals) {s o : List ℕ} {r : ListRead} (h : Settled s o list.Sho
   pub told-ill : r ≡ list.IllFormed → g ≡ ill
   told-ill e = list-ill g (sym (settled-full h (λ q. let z : _≡_ {A = ℕ} 0 1 = cc in omega arith)) ∙ e)
 
-  pub told-few : r ≡ list.Short → length o < length s
+  pub told-few : r ≡ list.Short → Full o (length s)
   told-few e = settled-over h e (list-full g)
 
 -- the definition of a head that is whole, with its formals and its text from x to before e

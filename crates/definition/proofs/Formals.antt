@@ -14,8 +14,9 @@ use Rattle.lex.specs.Tokens.{inDefinition, Name, Byte, End, is, isByte, isGap, 
 use Rattle.lex.proofs.Tests.{by-test, and-left, true-false}
 use Rattle.lex.proofs.Progress.{Inside, token-at, token-past, token-ends, token-within}
 use Rattle.lex.proofs.Listing.{tokens-out, by-tokens}
+use Rattle.brackets.specs.Steps.{Step, on, done, torn}
 use Rattle.definition.specs.Heads.{gapIn, gapEnd, nextAt}
-use Rattle.definition.specs.Lists.{Step, on, done, torn, stepAt, byStep, defaultIn, defaultEnd, givenFormal, formalBy, formalAt, Formals, ill, whole, also, formalsFrom, formalsAt, behind}
+use Rattle.definition.specs.Lists.{stepAt, byStep, defaultIn, defaultEnd, givenFormal, formalBy, formalAt, Formals, ill, whole, also, formalsFrom, formalsAt, behind}
 use Rattle.definition.specs.declared.Ending.{Ending}
 use Rattle.definition.specs.declared.Ending.the-variants as ending
 use Rattle.definition.specs.declared.Formal.{Formal}

@@ -4,6 +4,7 @@ use Prim.Native.Nat.{ℕ, _+_, _<_, _≤_}
 use mathlib.Core.Bool.{Bool, true, false, not, _||_}
 use mathlib.Core.List.{List}
 use mathlib.Core.Path.{_≡_, refl, sym, _∙_}
+use native.Mathlib.Omega.{arith}
 use lib.Dec.{eqb}
 use lib.ListN.{length, getD}
 use borrow.Author.Tests.{not-true, not-false}
@@ -11,12 +12,17 @@ use Rattle.lex.specs.declared.Mode.{Mode}
 use Rattle.lex.specs.declared.Token.{Token}
 use Rattle.lex.specs.Tokens.{inDefinition, Name, Escaped, Byte, is, isByte, tokenAt}
 use Rattle.lex.proofs.Tests.{and-left}
-use Rattle.lex.proofs.Progress.{token-within}
+use Rattle.lex.proofs.Progress.{token-past, token-within}
 use Rattle.definition.specs.declared.Head.{Head}
 use Rattle.definition.specs.Heads.{gapEnd, openAt, head, noHead, headAt}
 use Rattle.definition.proofs.Formals.{kind-inside}
 use Rattle.definition.proofs.Reading.{token-read}
 use Rattle.definition.proofs.Defaults.{next-word}
+
+-- an empty text has none
+pub head-empty : (s : List ℕ) (i : ℕ) → length s ≤ 0 → headAt s i ≡ noHead
+unfolding headAt
+head-empty s i h = rw (token-past inDefinition s (gapEnd s i) (omega arith))
 
 -- t: the next word, as the code reads it
 module _ (s : List ℕ) (i a : ℕ) (m : Mode) (t : Token) (g : a ≡ gapEnd s i) (f : m ≡ inDefinition) (e : t ≡ tokenAt m s a) where

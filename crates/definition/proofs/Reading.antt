@@ -16,11 +16,12 @@ use Rattle.lex.specs.Faults.{faultOf, worseOf}
 use Rattle.lex.proofs.Tests.{true-false}
 use Rattle.lex.proofs.Progress.{token-ends}
 use Rattle.lex.proofs.Listing.{tokens-out, tokens-stop, tokens-next}
+use Rattle.brackets.specs.Steps.{Step, on, done, torn}
 use Rattle.definition.specs.declared.Ending.{Ending}
 use Rattle.definition.specs.declared.Ending.the-variants.{Upto, Torn}
 use Rattle.definition.specs.Extents.{markOf, extentIn}
 use Rattle.definition.specs.Heads.{gapIn, gapEnd}
-use Rattle.definition.specs.Lists.{Step, on, done, torn, stepAt, byStep, defaultIn}
+use Rattle.definition.specs.Lists.{stepAt, byStep, defaultIn}
 
 -- in a definition a quote mark turns the one thing that is remembered
 mode-after : (b : Bool) (t : Token) → modeAfter (between inDefinition b) t ≡ between inDefinition (marksAfter b t)

@@ -7,6 +7,7 @@ use mathlib.Core.Path.{_≡_, refl, sym, ap, _∙_}
 use native.Mathlib.Omega.{arith}
 use lib.ListN.{length}
 use Rattle.text.specs.Bytes.{same}
+use Rattle.brackets.specs.Stacks.{Full}
 use Rattle.definition.specs.Lists.{formalAt, Formals, ill, whole, formalsAt, behind}
 use Rattle.definition.specs.Definitions.{formalName, named, badAmong, badFormals}
 use Rattle.definition.specs.Answers.{Settled}
@@ -14,7 +15,7 @@ use Rattle.definition.specs.declared.Formal.{Formal}
 use Rattle.definition.specs.declared.FormalRead.{FormalRead}
 use Rattle.definition.specs.declared.FormalRead.the-variants as formal
 use Rattle.definition.proofs.Formals.{formal-inside, formal-full, formals-ill, formals-out, Rest, formals-rest, behind-last, behind-more}
-use Rattle.definition.proofs.Settling.{settled-full, settled-over}
+use Rattle.definition.proofs.Settling.{full-lent, settled-full, settled-over}
 
 ill-whole : {A : Type 0} (g : Formals) {fs : List Formal} {e : ℕ} → g ≡ ill → g ≡ whole fs e → A
 ill-whole g p q = absurd (let z : _≡_ {A = ℕ} 0 1 = cc in omega arith)
@@ -52,8 +53,8 @@ module _ {s o o′ : List ℕ} {v : List Formal → Bool} {at i : ℕ} (a : Scan
         let z : r ≡ formalAt s i = settled-full h (λ y. let z : _≡_ {A = ℕ} 0 1 = cc in omega arith) in
         ill-whole (formalsAt s i) (formals-ill s i (sym z ∙ q)) (a .left fs e p .here)
 
-    pub scan-short : r ≡ formal.Short → length o < length s
-    scan-short q = omega (arith, a .same-length, settled-over h q (formal-full s i))
+    pub scan-short : r ≡ formal.Short → Full o (length s)
+    scan-short q = full-lent o′ o (length s) (a .same-length) (settled-over h q (formal-full s i))
 
     module _ {f : Formal} (q : r ≡ formal.Whole f) where
       formal-read : formalAt s i ≡ formal.Whole f
@@ -70,9 +71,9 @@ module _ {s o o′ : List ℕ} {v : List Formal → Bool} {at i : ℕ} (a : Scan
         pub scan-said : (b : Bool) → ((gs : List Formal) → behind s f ≡ whole gs e → v (f ∷ gs) ≡ b) → v fs ≡ b
         scan-said b g = let k = scan-rest in a .left fs e p .alike ∙ (ap v (k .first) ∙ g (k .rest) (k .others))
 
-        -- a buffer of n bytes that is too short for those behind
-        pub scan-over : {n : ℕ} → n ≡ length o′ → ((gs : List Formal) → behind s f ≡ whole gs e → n < length s) → length o < length s
-        scan-over z g = let k = scan-rest in omega (arith, a .same-length, g (k .rest) (k .others))
+        -- a buffer with no room for those behind
+        pub scan-over : (o″ : List ℕ) → length o″ ≡ length o′ → ((gs : List Formal) → behind s f ≡ whole gs e → Full o″ (length s)) → Full o (length s)
+        scan-over o″ z g = let k = scan-rest in full-lent o″ o (length s) (z ∙ a .same-length) (g (k .rest) (k .others))
 
       module _ (g : (gs : List Formal) (e : ℕ) → behind s f ≡ whole gs e → v (f ∷ gs) ≡ v gs) where
         pub scan-next : {o″ : List ℕ} → f .last ≡ false → length o″ ≡ length o′ → Scanning s o o″ v at (f .next)

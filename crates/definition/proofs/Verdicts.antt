@@ -1,22 +1,21 @@
--- What a verdict tells, and the verdict on a text that is stored to be judged.
+-- What a verdict tells, and the verdict on a default.
 -- Assumes nothing.
-use Prim.Native.Nat.{ℕ, _+_, _-_, _<_}
+use Prim.Native.Nat.{ℕ}
 use mathlib.Core.Bool.{Bool, true, false, _||_}
 use mathlib.Core.List.{List}
-use mathlib.Core.Path.{_≡_, refl, sym, ap, subst, _∙_}
+use mathlib.Core.Path.{_≡_, refl, sym, ap, _∙_}
 use native.Mathlib.Omega.{arith}
-use lib.ListN.{length, take}
-use Rattle.text.specs.Bytes.{part}
+use lib.ListN.{length}
+use Rattle.brackets.specs.Stacks.{Full}
 use Rattle.storing.specs.Stored.{stored}
-use Rattle.storing.specs.Judging.{badDefault, hasGrave}
-use Rattle.storing.specs.Writing.{StoredBy, StoredAt}
-use Rattle.storing.specs.declared.Stored.{Stored}
-use Rattle.storing.specs.declared.Stored.the-variants as storing
+use Rattle.storing.specs.Graves.{hasGrave}
+use Rattle.afresh.specs.Judging.{badDefault}
+use Rattle.afresh.specs.Feeding.{verdictOf, JudgedBy, full as judged-full, over as judged-over}
+use Rattle.afresh.specs.declared.Verdict.{Verdict}
+use Rattle.afresh.specs.declared.Verdict.the-variants as verdict
 use Rattle.definition.specs.Definitions.{badFormal}
-use Rattle.definition.specs.Answers.{Settled, full, verdictOf}
+use Rattle.definition.specs.Answers.{Settled, full, over}
 use Rattle.definition.specs.declared.Formal.{Formal}
-use Rattle.definition.specs.declared.Verdict.{Verdict}
-use Rattle.definition.specs.declared.Verdict.the-variants as verdict
 use Rattle.definition.proofs.Settling.{settled-full, settled-over}
 
 -- the verdict on a test is not Short, and tells the test
@@ -40,11 +39,15 @@ module _ (b : Bool) {s w : List ℕ} {r : Verdict} (h : Settled s w verdict.Shor
   pub told-good : r ≡ verdict.Good → b ≡ false
   told-good e = good-false b (sym (settled-full h (λ q. let z : _≡_ {A = ℕ} 0 1 = cc in omega arith)) ∙ e)
 
-  pub told-short : r ≡ verdict.Short → length w < length s
+  pub told-short : r ≡ verdict.Short → Full w (length s)
   told-short e = settled-over h e (verdict-full b)
 
 -- an answer that is given
 module _ {s w : List ℕ} (b : Bool) where
+  pub settled-judged : {r : Verdict} → JudgedBy b w (length s) r → Settled s w verdict.Short (verdictOf b) r
+  settled-judged (judged-full e) = full e
+  settled-judged (judged-over e l) = over e l
+
   pub settled-bad : b ≡ true → Settled s w verdict.Short (verdictOf b) verdict.Bad
   settled-bad e = full (ap verdictOf (sym e))
 
@@ -57,23 +60,6 @@ or-first a b e = rw e
 
 pub or-next : (a b : Bool) → a ≡ false → (a || b) ≡ b
 or-next a b e = rw e
-
--- a text stored at the front of a buffer
-module _ (x : Stored) (s : List ℕ) (i e : ℕ) (o o′ : List ℕ) (h : StoredBy x s i e o o′ 0) where
-  pub stored-front : {n : ℕ} → x ≡ storing.Upto n → part o′ 0 n ≡ stored s i e
-  stored-front {n} q =
-      let d : StoredAt s i e o o′ 0 n = subst (λ (y : Stored). StoredBy y s i e o o′ 0) q h in
-      let z : n - 0 ≡ n = omega arith in
-      ap (λ (k : ℕ). take k o′) z ∙ d .bytes
-
-  pub stored-short : x ≡ storing.Short → length o < length s
-  stored-short q =
-      let d : length o < 0 + length s = subst (λ (y : Stored). StoredBy y s i e o o′ 0) q h in
-      omega arith
-
-  -- is judged there
-  pub stored-judged : {n : ℕ} → x ≡ storing.Upto n → {w : List ℕ} → w ≡ part o′ 0 n → (bad : List ℕ → Bool) (b v : Bool) → b ≡ bad w → b ≡ v → bad (stored s i e) ≡ v
-  stored-judged q p bad b v z y = ap bad (sym (stored-front q)) ∙ (ap bad (sym p) ∙ (sym z ∙ y))
 
 -- the verdict on a formal's default
 module _ (s : List ℕ) (f : Formal) where

@@ -10,7 +10,8 @@ use Rattle.text.specs.Bytes.{same, part}
 use Rattle.lex.specs.declared.Fault.{Fault}
 use Rattle.names.specs.Names.{isDirective}
 use Rattle.storing.specs.Stored.{stored}
-use Rattle.storing.specs.Judging.{badText, badDefault, hasGrave}
+use Rattle.storing.specs.Graves.{hasGrave}
+use Rattle.afresh.specs.Judging.{badText, badDefault}
 use Rattle.definition.specs.Extents.{extentAt, barsOf}
 use Rattle.definition.specs.Heads.{headAt}
 use Rattle.definition.specs.Lists.{Formals, ill, whole, formalsAt}

@@ -1,12 +1,13 @@
 -- The formal list of a definition.
 -- Assumes nothing.
 use Prim.Native.Nat.{ℕ, zero, suc, _-_}
-use mathlib.Core.Bool.{Bool, true, false, cond, _||_}
+use mathlib.Core.Bool.{true, false, cond, _||_}
 use mathlib.Core.List.{List, [], _∷_}
 use lib.Dec.{eqb}
 use lib.ListN.{length, getD}
 use Rattle.lex.specs.Tokens.{inDefinition, Name, Quote, Byte, is, isByte, tokens}
 use Rattle.lex.specs.declared.Token.{Token}
+use Rattle.brackets.specs.Steps.{Step, on, done, torn, stepOf}
 use Rattle.definition.specs.Heads.{nextAt}
 use Rattle.definition.specs.declared.Ending.{Ending}
 use Rattle.definition.specs.declared.Ending.the-variants as ending
@@ -14,38 +15,7 @@ use Rattle.definition.specs.declared.Formal.{Formal}
 use Rattle.definition.specs.declared.FormalRead.{FormalRead}
 use Rattle.definition.specs.declared.FormalRead.the-variants as formal
 
--- what a token does in a default
-pub data Step : Type 0 where
-  on : List ℕ → Step  -- read on, with these closing brackets due
-  done : Step  -- "A default ends at an unshielded `,` or `)`"
-  torn : Step  -- "unmatched brackets"
-
--- a closing bracket
-abbrev pub closing : ℕ → List ℕ → Step
-closing c [] = torn
-closing c (k ∷ ks) = cond (eqb c k) (on ks) torn
-
--- a `)`
-abbrev pub ending-list : List ℕ → Step
-ending-list [] = done
-ending-list (k ∷ ks) = cond (eqb 41 k) (on ks) torn
-
--- a `,`
-abbrev pub separating : List ℕ → Step
-separating [] = done
-separating (k ∷ ks) = on (k ∷ ks)
-
-unfoldable pub stepOf : ℕ → List ℕ → Step
-stepOf c ks =
-    cond (eqb c 44) (separating ks)
-    (cond (eqb c 41) (ending-list ks)
-    (cond (eqb c 93 || eqb c 125) (closing c ks)
-    (cond (eqb c 40) (on (41 ∷ ks))
-    (cond (eqb c 91) (on (93 ∷ ks))
-    (cond (eqb c 123) (on (125 ∷ ks))
-    (on ks))))))
-
--- a quote mark bars the definition (4) wherever its list ends, so reading stops there
+-- what a token does in a default; a quote mark bars the definition (4) wherever its list ends, so reading stops there
 unfoldable pub stepAt : List ℕ → Token → List ℕ → Step
 stepAt s t ks = cond (is Quote t) torn (cond (is Byte t) (stepOf (getD s (t .at) 0) ks) (on ks))
 

@@ -1,20 +1,25 @@
 // Reading a `define` (document 01, "Macros"): its extent, what bars it, its head and formal list, and whether it is bad.
 ghost use mathlib.Core.Path.{_≡_};
 ghost use mathlib.Core.List.{List, []};
-ghost use Prim.Native.Nat.{ℕ, _≤_};
+ghost use Prim.Native.Nat.{ℕ, _*_, _≤_};
 ghost use lib.ListN.{length};
-ghost use mathlib.Core.List.{_∷_};
 ghost use Rattle.lex.specs.Faults.{noFault};
 ghost use Rattle.text.specs.Bytes.{part};
 ghost use Rattle.storing.specs.Stored.{stored};
-ghost use Rattle.storing.specs.Judging.{badText};
+ghost use Rattle.brackets.specs.Stacks.{stackOf, SteppedBy};
+ghost use Rattle.afresh.specs.Judging.{badText};
+ghost use Rattle.afresh.specs.Feeding.{verdictOf};
 ghost use Rattle.definition.specs.Extents.{markOf, extentAt, barsOf};
 ghost use Rattle.definition.specs.Extents.{least as leastOf};
 ghost use Rattle.definition.specs.Heads.{gapEnd, openAt, headAt};
 ghost use Rattle.definition.specs.Heads.{head as headOf};
-ghost use Rattle.definition.specs.Lists.{closing, on, stepOf, stepAt, defaultEnd, givenFormal, formalAt, formalsAt, behind, whole};
+ghost use Rattle.definition.specs.Lists.{stepAt, defaultEnd, givenFormal, formalAt, formalsAt, behind, whole};
 ghost use Rattle.definition.specs.Definitions.{badFormal, named, badAmong, badFormals, isBad, shapeBy, judgedBy, definitionAt};
-ghost use Rattle.definition.specs.Answers.{Settled, stackOf, SteppedBy, listOf, verdictOf, judgedOf};
+ghost use Rattle.definition.specs.Answers.{Settled, listOf, judgedOf};
+use afresh::Verdict;
+use brackets::Stepped;
+use brackets::step;
+use judging::judge_stored;
 use lex::BYTE;
 use lex::ESCAPED;
 use lex::ESCAPED_QUOTE;
@@ -33,11 +38,7 @@ use lex::marks_after;
 use lex::token_at;
 use lex::worse;
 use names::directive_of;
-use storing::Stored;
-use storing::default_is_bad;
 use storing::has_grave;
-use storing::store_text;
-use storing::text_is_bad;
 use text::part_of;
 use text::peek;
 use text::same;
@@ -56,14 +57,6 @@ pub struct Head {
     pub end: usize,
     pub listed: bool,
     pub next: usize,
-}
-
-// What a token does in a default: closing brackets due then, or the default's end, or none fits, or no room.
-pub enum Stepped {
-    On(usize),
-    Done,
-    Torn,
-    Short,
 }
 
 // Where a default ends, and past the `,` or `)` that ends it.
@@ -97,13 +90,7 @@ pub enum ListRead {
     Short,
 }
 
-pub enum Verdict {
-    Bad,
-    Good,
-    Short,
-}
-
-// A definition: barred by 2 to 6 at a place; bad (11) or good, with its end; or the work bytes are too few to tell.
+// A definition: barred by 2 to 6 at a place; bad (11) or good, with its end; or the lent bytes are too few to tell.
 pub enum Judged {
     Barred(usize, usize),
     Bad(usize),
@@ -249,68 +236,9 @@ pub fn head_at(s: &[u8], at: usize) -> Head
     make_head(t, false, t.end)
 }
 
-// A closing bracket `b`.
-fn close(stack: &[u8], depth: usize, b: u8) -> Stepped
-    requires { ⌜ depth ≤ length (now stack) ⌝ }
-    ensures { λ r. ⌜ SteppedBy r (closing b (stackOf (now (stack .entry)) depth)) (now (stack .entry)) (now (stack .entry)) depth ⌝ }
-{
-    if depth == 0 {
-        return Stepped::Torn;
-    }
-    let d = depth - 1;
-    if stack[d] == b {
-        return Stepped::On(d);
-    }
-    Stepped::Torn
-}
-
-// An opening bracket, whose closing one is `b`.
-fn push(stack: &mut [u8], depth: usize, b: u8) -> Stepped
-    requires { ⌜ depth ≤ length (now stack) ⌝ }
-    ensures { λ r. ⌜ SteppedBy r (on (b ∷ stackOf (now (stack .entry)) depth)) (now (stack .entry)) (now (stack .exit)) depth ⌝ }
-{
-    if stack.len() <= depth {
-        return Stepped::Short;
-    }
-    stack[depth] = b;
-    Stepped::On(depth + 1)
-}
-
-// What the byte `b`, a token of its own, does in a default.
-fn step(stack: &mut [u8], depth: usize, b: u8) -> Stepped
-    requires { ⌜ depth ≤ length (now stack) ⌝ }
-    ensures { λ r. ⌜ SteppedBy r (stepOf b (stackOf (now (stack .entry)) depth)) (now (stack .entry)) (now (stack .exit)) depth ⌝ }
-{
-    if b == 44 {
-        if depth == 0 {
-            return Stepped::Done;
-        }
-        return Stepped::On(depth);
-    }
-    if b == 41 {
-        if depth == 0 {
-            return Stepped::Done;
-        }
-        return close(stack, depth, 41);
-    }
-    if (b == 93) | (b == 125) {
-        return close(stack, depth, b);
-    }
-    if b == 40 {
-        return push(stack, depth, 41);
-    }
-    if b == 91 {
-        return push(stack, depth, 93);
-    }
-    if b == 123 {
-        return push(stack, depth, 125);
-    }
-    Stepped::On(depth)
-}
-
 // What a token does in a default.
 fn step_at(s: &[u8], t: Token, stack: &mut [u8], depth: usize) -> Stepped
-    requires { ⌜ depth ≤ length (now stack) ⌝ }
+    requires { ⌜ depth ≤ 4 * length (now stack) ⌝ }
     ensures { λ r. ⌜ SteppedBy r (stepAt (now (s .entry)) t (stackOf (now (stack .entry)) depth)) (now (stack .entry)) (now (stack .exit)) depth ⌝ }
 {
     if t.kind == QUOTE {
@@ -459,8 +387,9 @@ fn named_later(s: &[u8], from: usize, end: usize, at: usize, stack: &mut [u8]) -
 }
 
 // Whether a formal's default is bad.
-fn default_verdict(s: &[u8], f: Formal, work: &mut [u8]) -> Verdict
-    ensures { λ r. ⌜ Settled (now (s .entry)) (now (work .entry)) Verdict.Short (verdictOf (badFormal (now (s .entry)) f)) r ⌝ }
+fn default_verdict(s: &[u8], f: Formal, name: &mut [u8], stack: &mut [u8]) -> Verdict
+    requires { ⌜ 1025 ≤ length (now name) ⌝ }
+    ensures { λ r. ⌜ Settled (now (s .entry)) (now (stack .entry)) Verdict.Short (verdictOf (badFormal (now (s .entry)) f)) r ⌝ }
 {
     if !f.given {
         return Verdict::Good;
@@ -468,29 +397,21 @@ fn default_verdict(s: &[u8], f: Formal, work: &mut [u8]) -> Verdict
     if has_grave(s, f.first, f.stop) {
         return Verdict::Bad;
     }
-    let r = store_text(s, f.first, f.stop, work, 0);
-    match r {
-        Stored::Upto(n) => {
-            if default_is_bad(part_of(work, 0, n)) {
-                return Verdict::Bad;
-            }
-            Verdict::Good
-        }
-        Stored::Short => Verdict::Short,
-    }
+    judge_stored(s, f.first, f.stop, false, name, stack)
 }
 
 // Whether a formal is bad: its default, or one of those behind it has its name.
-fn formal_verdict(s: &[u8], f: Formal, work: &mut [u8]) -> Verdict
-    ensures { λ r. ⌜ ((fs : List Formal) (e : ℕ) → behind (now (s .entry)) f ≡ whole fs e → Settled (now (s .entry)) (now (work .entry)) Verdict.Short (verdictOf (badAmong (now (s .entry)) f fs)) r) ⌝ }
+fn formal_verdict(s: &[u8], f: Formal, name: &mut [u8], stack: &mut [u8]) -> Verdict
+    requires { ⌜ 1025 ≤ length (now name) ⌝ }
+    ensures { λ r. ⌜ ((fs : List Formal) (e : ℕ) → behind (now (s .entry)) f ≡ whole fs e → Settled (now (s .entry)) (now (stack .entry)) Verdict.Short (verdictOf (badAmong (now (s .entry)) f fs)) r) ⌝ }
 {
-    let v = default_verdict(s, f, work);
+    let v = default_verdict(s, f, name, stack);
     match v {
         Verdict::Good => {
             if f.last {
                 return Verdict::Good;
             }
-            named_later(s, f.from, f.end, f.next, work)
+            named_later(s, f.from, f.end, f.next, stack)
         }
         Verdict::Bad => Verdict::Bad,
         Verdict::Short => Verdict::Short,
@@ -498,15 +419,16 @@ fn formal_verdict(s: &[u8], f: Formal, work: &mut [u8]) -> Verdict
 }
 
 // Whether a formal of the list from `at` on is bad.
-fn formals_verdict(s: &[u8], at: usize, work: &mut [u8]) -> Verdict
-    ensures { λ r. ⌜ ((fs : List Formal) (e : ℕ) → formalsAt (now (s .entry)) at ≡ whole fs e → Settled (now (s .entry)) (now (work .entry)) Verdict.Short (verdictOf (badFormals (now (s .entry)) fs)) r) ⌝ }
+fn formals_verdict(s: &[u8], at: usize, name: &mut [u8], stack: &mut [u8]) -> Verdict
+    requires { ⌜ 1025 ≤ length (now name) ⌝ }
+    ensures { λ r. ⌜ ((fs : List Formal) (e : ℕ) → formalsAt (now (s .entry)) at ≡ whole fs e → Settled (now (s .entry)) (now (stack .entry)) Verdict.Short (verdictOf (badFormals (now (s .entry)) fs)) r) ⌝ }
 {
     let mut i = at;
     while i < s.len() {
-        let r = formal_at(s, i, work);
+        let r = formal_at(s, i, stack);
         match r {
             FormalRead::Whole(f) => {
-                let v = formal_verdict(s, f, work);
+                let v = formal_verdict(s, f, name, stack);
                 match v {
                     Verdict::Good => {
                         if f.last {
@@ -535,19 +457,11 @@ fn formals_verdict(s: &[u8], at: usize, work: &mut [u8]) -> Verdict
 }
 
 // Whether the macro text from `at` to before `end` is bad.
-fn text_verdict(s: &[u8], at: usize, end: usize, work: &mut [u8]) -> Verdict
-    ensures { λ r. ⌜ Settled (now (s .entry)) (now (work .entry)) Verdict.Short (verdictOf (badText (stored (now (s .entry)) at end))) r ⌝ }
+fn text_verdict(s: &[u8], at: usize, end: usize, name: &mut [u8], stack: &mut [u8]) -> Verdict
+    requires { ⌜ 1025 ≤ length (now name) ⌝ }
+    ensures { λ r. ⌜ Settled (now (s .entry)) (now (stack .entry)) Verdict.Short (verdictOf (badText (stored (now (s .entry)) at end))) r ⌝ }
 {
-    let r = store_text(s, at, end, work, 0);
-    match r {
-        Stored::Upto(n) => {
-            if text_is_bad(part_of(work, 0, n)) {
-                return Verdict::Bad;
-            }
-            Verdict::Good
-        }
-        Stored::Short => Verdict::Short,
-    }
+    judge_stored(s, at, end, true, name, stack)
 }
 
 // The formals of a head and where the macro text begins.
@@ -564,18 +478,28 @@ pub fn shape_of(s: &[u8], h: Head, stack: &mut [u8]) -> ListRead
 }
 
 // Whether the formals of a head are bad.
-fn head_verdict(s: &[u8], h: Head, work: &mut [u8]) -> Verdict
-    ensures { λ r. ⌜ ((fs : List Formal) (x : ℕ) → shapeBy (now (s .entry)) h ≡ whole fs x → Settled (now (s .entry)) (now (work .entry)) Verdict.Short (verdictOf (badFormals (now (s .entry)) fs)) r) ⌝ }
+fn head_verdict(s: &[u8], h: Head, name: &mut [u8], stack: &mut [u8]) -> Verdict
+    requires { ⌜ 1025 ≤ length (now name) ⌝ }
+    ensures { λ r. ⌜ ((fs : List Formal) (x : ℕ) → shapeBy (now (s .entry)) h ≡ whole fs x → Settled (now (s .entry)) (now (stack .entry)) Verdict.Short (verdictOf (badFormals (now (s .entry)) fs)) r) ⌝ }
 {
     if !h.listed {
         return Verdict::Good;
     }
-    formals_verdict(s, h.next, work)
+    formals_verdict(s, h.next, name, stack)
 }
 
 // Whether a definition with `count` formals, whose text reaches from `text` to `end`, is bad.
-fn verdict_of(s: &[u8], h: Head, count: usize, text: usize, end: usize, work: &mut [u8]) -> Verdict
-    ensures { λ r. ⌜ ((fs : List Formal) → shapeBy (now (s .entry)) h ≡ whole fs text → count ≡ length fs → Settled (now (s .entry)) (now (work .entry)) Verdict.Short (verdictOf (isBad (now (s .entry)) (part (now (s .entry)) (h .from) (h .end)) fs (stored (now (s .entry)) text end))) r) ⌝ }
+fn verdict_of(
+    s: &[u8],
+    h: Head,
+    count: usize,
+    text: usize,
+    end: usize,
+    name: &mut [u8],
+    stack: &mut [u8],
+) -> Verdict
+    requires { ⌜ 1025 ≤ length (now name) ⌝ }
+    ensures { λ r. ⌜ ((fs : List Formal) → shapeBy (now (s .entry)) h ≡ whole fs text → count ≡ length fs → Settled (now (s .entry)) (now (stack .entry)) Verdict.Short (verdictOf (isBad (now (s .entry)) (part (now (s .entry)) (h .from) (h .end)) fs (stored (now (s .entry)) text end))) r) ⌝ }
 {
     if 0 < directive_of(part_of(s, h.from, h.end)) {
         return Verdict::Bad;
@@ -583,19 +507,28 @@ fn verdict_of(s: &[u8], h: Head, count: usize, text: usize, end: usize, work: &m
     if 16 < count {
         return Verdict::Bad;
     }
-    let v = head_verdict(s, h, work);
+    let v = head_verdict(s, h, name, stack);
     match v {
-        Verdict::Good => text_verdict(s, text, end, work),
+        Verdict::Good => text_verdict(s, text, end, name, stack),
         Verdict::Bad => Verdict::Bad,
         Verdict::Short => Verdict::Short,
     }
 }
 
 // Judges a definition that nothing bars and whose head is whole.
-fn judge_whole(s: &[u8], h: Head, count: usize, text: usize, end: usize, work: &mut [u8]) -> Judged
-    ensures { λ r. ⌜ ((fs : List Formal) → shapeBy (now (s .entry)) h ≡ whole fs text → count ≡ length fs → Settled (now (s .entry)) (now (work .entry)) Judged.Short (judgedOf (judgedBy (now (s .entry)) h end (whole fs text))) r) ⌝ }
+fn judge_whole(
+    s: &[u8],
+    h: Head,
+    count: usize,
+    text: usize,
+    end: usize,
+    name: &mut [u8],
+    stack: &mut [u8],
+) -> Judged
+    requires { ⌜ 1025 ≤ length (now name) ⌝ }
+    ensures { λ r. ⌜ ((fs : List Formal) → shapeBy (now (s .entry)) h ≡ whole fs text → count ≡ length fs → Settled (now (s .entry)) (now (stack .entry)) Judged.Short (judgedOf (judgedBy (now (s .entry)) h end (whole fs text))) r) ⌝ }
 {
-    let v = verdict_of(s, h, count, text, end, work);
+    let v = verdict_of(s, h, count, text, end, name, stack);
     match v {
         Verdict::Good => Judged::Good(end),
         Verdict::Bad => Judged::Bad(end),
@@ -603,20 +536,21 @@ fn judge_whole(s: &[u8], h: Head, count: usize, text: usize, end: usize, work: &
     }
 }
 
-// Judges the definition whose word ends at `at`, with work bytes, of which as many as the text has are enough.
-pub fn judge_definition(s: &[u8], at: usize, work: &mut [u8]) -> Judged
-    ensures { λ r. ⌜ Settled (now (s .entry)) (now (work .entry)) Judged.Short (judgedOf (definitionAt (now (s .entry)) at)) r ⌝ }
+// Judges the definition whose word ends at `at`, with bytes for a name, 1,025 of them, and for brackets, a quarter of the text's.
+pub fn judge_definition(s: &[u8], at: usize, name: &mut [u8], stack: &mut [u8]) -> Judged
+    requires { ⌜ 1025 ≤ length (now name) ⌝ }
+    ensures { λ r. ⌜ Settled (now (s .entry)) (now (stack .entry)) Judged.Short (judgedOf (definitionAt (now (s .entry)) at)) r ⌝ }
 {
     let w = extent_at(s, at);
     let h = head_at(s, at);
-    let shape = shape_of(s, h, work);
+    let shape = shape_of(s, h, stack);
     match shape {
         ListRead::Whole(n, text) => {
             let f = bars_of(w, text);
             if f.number != 0 {
                 return Judged::Barred(f.number, f.place);
             }
-            judge_whole(s, h, n, text, w.end, work)
+            judge_whole(s, h, n, text, w.end, name, stack)
         }
         ListRead::IllFormed => {
             let f = bars_of(w, s.len());

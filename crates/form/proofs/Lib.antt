@@ -1,5 +1,6 @@
 pub mod Pushing
 pub mod Formed
 pub mod Walking
+pub mod Working
 pub mod Told
 pub mod Claims

@@ -3,7 +3,7 @@
 use Prim.Native.Nat.{ℕ, _<_, _≤_}
 use mathlib.Core.Bool.{Bool, true, false, cond}
 use mathlib.Core.List.{List}
-use mathlib.Core.Path.{_≡_, refl, sym, _∙_}
+use mathlib.Core.Path.{_≡_, refl, sym, ap, _∙_}
 use native.Mathlib.Omega.{arith}
 use lib.Dec.{eqb, ltb}
 use lib.ListN.{length}
@@ -17,6 +17,7 @@ use Rattle.definition.specs.Definitions.{Macro, macro, Definition, barred, bad,
 use Rattle.definition.specs.declared.Extent.{Extent}
 use Rattle.definition.specs.declared.Head.{Head}
 use Rattle.definition.specs.declared.Formal.{Formal}
+use Rattle.definition.proofs.Heading.{head-empty}
 use Rattle.definition.proofs.Defining.{bad-name, bad-count}
 
 -- a number is none, or some
@@ -61,6 +62,10 @@ module _ (s : List ℕ) (i : ℕ) {w : Extent} {h : Head} (p : w ≡ extentAt s 
 
   pub good-shape : shapeBy s h ≡ ill → ⊥
   good-shape k = not-good (judgedBy s h (w .end) ill) refl (judged-so ill k)
+
+  -- it stands in a text that is not empty
+  pub good-some : 0 < length s
+  good-some = by-none (length s) (λ l. l) (λ l. absurd (good-shape (ap (shapeBy s) (q ∙ head-empty s i l))))
 
   module _ {fs : List Formal} {x : ℕ} (k : shapeBy s h ≡ whole fs x) where
     told : Unspoilt (isBad s (part s (h .from) (h .end)) fs (stored s x (w .end))) (macro (part s (h .from) (h .end)) (parametersOf s fs) (stored s x (w .end))) m

@@ -103,19 +103,19 @@ pub fn is_start(b: u8) -> bool
     (((65 <= b) & (b <= 90)) | ((97 <= b) & (b <= 122))) | (b == 95)
 }
 
-fn is_run(more: u8, b: u8) -> bool
+pub fn is_run(more: u8, b: u8) -> bool
     ensures { λ r. ⌜ r ≡ isRun more b ⌝ }
 {
     is_start(b) | (is_digit(b) | (b == more))
 }
 
-fn is_sign(b: u8) -> bool
+pub fn is_sign(b: u8) -> bool
     ensures { λ r. ⌜ r ≡ isSign b ⌝ }
 {
     (b == 115) | (b == 83)
 }
 
-fn is_base(b: u8) -> bool
+pub fn is_base(b: u8) -> bool
     ensures { λ r. ⌜ r ≡ isBase b ⌝ }
 {
     (b == 98)

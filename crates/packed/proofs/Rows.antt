@@ -18,9 +18,10 @@ any-default (a ∷ l) zero d e h = refl
 any-default (a ∷ l) (suc i) d e h = any-default l i d e (le-of-suc-le-suc h)
 
 -- a record by its four numbers, each of 32 bits
-pub record-by : (v : List ℕ) (a b c d : ℕ) → (a ≡ getD v 0 0) × (a < 4294967296) → (b ≡ getD v 1 0) × (b < 4294967296) → (c ≡ getD v 2 0) × (c < 4294967296) → (d ≡ getD v 3 0) × (d < 4294967296)
+pub record-by : (v : List ℕ) (a b c d : ℕ) → length v ≡ 4 → (a ≡ getD v 0 0) × (a < 4294967296) → (b ≡ getD v 1 0) × (b < 4294967296) → (c ≡ getD v 2 0) × (c < 4294967296) → (d ≡ getD v 3 0) × (d < 4294967296)
     → RecordIs v (record { start = a; name = b; text = c; size = d })
-record-by v a b c d p q r s = record {
+record-by v a b c d l p q r s = record {
+  four = l;
   value = cc (p .0, q .0, r .0, s .0);
   start-small = p .1;
   name-small = q .1;
@@ -30,6 +31,7 @@ record-by v a b c d p q r s = record {
 
 pub record-as : {v w : List ℕ} {r : Record} → v ≡ w → RecordIs v r → RecordIs w r
 record-as e h = record {
+  four = rw (← e) (h .four);
   value = h .value ∙ ap recordOf e;
   start-small = h .start-small;
   name-small = h .name-small;
@@ -39,6 +41,7 @@ record-as e h = record {
 
 pub record-blank : {v : List ℕ} → blankRecord ≡ v → RecordIs v (record { start = 0; name = 0; text = 0; size = 0 })
 record-blank e = record {
+  four = rw (← e);
   value = ap recordOf e;
   start-small = omega arith;
   name-small = omega arith;

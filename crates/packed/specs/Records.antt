@@ -22,6 +22,7 @@ recordOf v = record { start = getD v 0 0; name = getD v 1 0; text = getD v 2 0; 
 
 -- r is the record of four numbers v, each of 32 bits
 pub record RecordIs (v : List ℕ) (r : Record) : Type 0 where
+  pub four : length v ≡ 4
   pub value : r ≡ recordOf v
   pub start-small : r .start < 4294967296
   pub name-small : r .name < 4294967296

@@ -13,17 +13,7 @@ use Rattle.text.proofs.Comparing.{turned, isEqual, order-turned, order-equal, o
 use Rattle.definition.specs.Definitions.{Macro}
 use Rattle.store.specs.declared.Found.{Found}
 use Rattle.store.specs.declared.Found.the-variants.{At, Missing}
-use Rattle.store.specs.Stores.{macroName, macroAt, placeBy, findFrom, find, insertAt, replaceAt, removeAt, defineBy, define, undefineBy, undefine}
-
--- a name stands before the first of the macros, if there is one
-abbrev pub Below : List ℕ → List Macro → Type 0
-Below w [] = Unit {0}
-Below w (m ∷ ms) = orderOf w (macroName m) ≡ Less
-
--- "in byte order of names"
-abbrev pub Ascending : List Macro → Type 0
-Ascending [] = Unit {0}
-Ascending (m ∷ ms) = Below (macroName m) ms × Ascending ms
+use Rattle.store.specs.Stores.{macroName, macroAt, Below, Ascending, placeBy, findFrom, find, insertAt, replaceAt, removeAt, defineBy, define, undefineBy, undefine}
 
 pub none-ascend : Ascending []
 none-ascend = tt

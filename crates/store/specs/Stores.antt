@@ -2,6 +2,7 @@
 -- Assumes nothing.
 use Prim.Native.Nat.{ℕ, suc}
 use mathlib.Core.Bool.{Bool, true, false, _&&_}
+use mathlib.Core.Path.{_≡_}
 use mathlib.Core.List.{List, [], _∷_, _++_}
 use lib.Dec.{leb}
 use lib.ListN.{length, take, drop, getD}
@@ -25,6 +26,16 @@ noMacro = macro [] [] []
 -- macro i, numbered from 0 in byte order of names
 abbrev pub macroAt : List Macro → ℕ → Macro
 macroAt ms i = getD ms i noMacro
+
+-- a name stands before the first of the macros, if there is one
+abbrev pub Below : List ℕ → List Macro → Type 0
+Below w [] = Unit {0}
+Below w (m ∷ ms) = orderOf w (macroName m) ≡ Less
+
+-- "in byte order of names"
+abbrev pub Ascending : List Macro → Type 0
+Ascending [] = Unit {0}
+Ascending (m ∷ ms) = Below (macroName m) ms × Ascending ms
 
 -- where a name stands or belongs, by its order to the name at k and its place in the rest
 abbrev pub placeBy : Order → ℕ → Found → Found

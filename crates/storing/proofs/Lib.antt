@@ -2,4 +2,4 @@ pub mod Adding
 pub mod Reading
 pub mod Joining
 pub mod Trimming
-pub mod Judged
+pub mod Accents

@@ -1,3 +1,3 @@
 pub mod Stored
-pub mod Judging
+pub mod Graves
 pub mod Writing

@@ -1,4 +1,4 @@
-// What is stored of a macro's text or of a default, written into lent bytes, and what makes it bad (document 01, "Macros").
+// What is stored of a macro's text or of a default, written into lent bytes (document 01, "Macros").
 ghost use mathlib.Core.Path.{_≡_};
 ghost use Prim.Native.Nat.{_≤_};
 ghost use lib.ListN.{length};
@@ -6,24 +6,19 @@ ghost use mathlib.Core.Bool.{false};
 ghost use mathlib.Core.List.{[], _∷_};
 ghost use Rattle.text.specs.Bytes.{part};
 ghost use Rattle.storing.specs.Stored.{joinedFrom, escapeOf, given, piece};
-ghost use Rattle.storing.specs.Judging.{barredGrave, badText, isFree, hasGrave, badDefault};
+ghost use Rattle.storing.specs.Graves.{isFree, hasGrave};
 ghost use Rattle.storing.specs.Writing.{AddedBy, Trimmed, StoredBy};
 use lex::BLOCK_COMMENT;
 use lex::CONTINUATION;
-use lex::GRAVE;
 use lex::LINE_COMMENT;
 use lex::NEWLINE;
 use lex::STRING;
 use lex::Token;
 use lex::in_definition;
-use lex::in_file;
-use lex::in_text;
 use lex::is_space;
 use lex::marks_after;
 use lex::token_at;
-use names::directive_of;
 use text::holds_in;
-use text::part_of;
 
 // How far a buffer is filled now, or that it has no room.
 pub enum Stored {
@@ -206,48 +201,6 @@ pub fn store_text(s: &[u8], at: usize, end: usize, out: &mut [u8], from: usize) 
         }
     }
     Stored::Upto(trim_end(out, from, k))
-}
-
-// Whether a token is a grave accent with a directive's name, the two `__` words excepted.
-fn is_barred_grave(w: &[u8], t: Token) -> bool
-    ensures { λ r. ⌜ r ≡ barredGrave (now (w .entry)) t ⌝ }
-{
-    if t.kind != GRAVE {
-        return false;
-    }
-    2 < directive_of(part_of(w, t.from, t.end))
-}
-
-// Whether a stored text is bad.
-pub fn text_is_bad(w: &[u8]) -> bool
-    ensures { λ r. ⌜ r ≡ badText (now (w .entry)) ⌝ }
-{
-    let mut i = 0;
-    let mut marks = false;
-    while i < w.len() {
-        let t = token_at(w, i, in_text(marks));
-        if (t.bar != 0) | is_barred_grave(w, t) {
-            return true;
-        }
-        marks = marks_after(marks, t);
-        i = t.end;
-    }
-    marks
-}
-
-// Whether a stored default is bad.
-pub fn default_is_bad(w: &[u8]) -> bool
-    ensures { λ r. ⌜ r ≡ badDefault (now (w .entry)) ⌝ }
-{
-    let mut i = 0;
-    while i < w.len() {
-        let t = token_at(w, i, in_file());
-        if t.bar != 0 {
-            return true;
-        }
-        i = t.end;
-    }
-    false
 }
 
 // Whether a token is a string or a comment.

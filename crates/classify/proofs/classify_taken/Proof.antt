@@ -1,10 +1,12 @@
 -- `classify::classify_taken` meets its contract. The constant tables compute to those of the readable list.
 -- Assumes nothing.
 use mathlib.Core.Path.{refl}
+use native.Mathlib.Omega.{arith}
 use borrow.Author.Needs.{needs}
 use Rattle.text.specs.Bytes.{bytes}
 use Rattle.keywords.specs.Tables.{flat, startsFrom, firsts, keywordBytes, keywordStarts, keywordFirsts}
 use Rattle.keywords.specs.Keywords.{keywords}
+use Rattle.classify.proofs.Filled.{filled}
 use Rattle.classify.proofs.classify_taken.Statement.{statement}
 use Rattle.classify.proofs.classify_taken.Tie as tie
 
@@ -20,9 +22,12 @@ slice-aggregate-classify-with-3 c = search needs
 slice-aggregate-classify-with-4 : tie.Need-slice-aggregate-classify-with-4
 slice-aggregate-classify-with-4 c = search needs
 
+slice-aggregate-classify-with-5 : tie.Need-slice-aggregate-classify-with-5
+slice-aggregate-classify-with-5 c = search needs
+
 classify-with-requires : tie.Need-classify-with-requires
 unfolding keywordBytes keywordStarts keywordFirsts flat startsFrom firsts keywords bytes
-classify-with-requires c κs = (c .before .before .before .before .before .before .pre, record { its-bytes = refl; its-starts = refl; its-firsts = refl })
+classify-with-requires c κs = (c .before .before .before .before .before .before .before .pre, omega (arith, filled 1025), record { its-bytes = refl; its-starts = refl; its-firsts = refl })
 
 same-length : tie.Need-same-length
 same-length c = search needs
@@ -38,6 +43,7 @@ classify-taken-spec =
     slice-aggregate-classify-with-2
     slice-aggregate-classify-with-3
     slice-aggregate-classify-with-4
+    slice-aggregate-classify-with-5
     classify-with-requires
     same-length
     returns)

@@ -16,9 +16,13 @@ same-length c = search needs
 same-length-2 : tie.Need-same-length-2
 same-length-2 c = search needs
 
+same-length-3 : tie.Need-same-length-3
+same-length-3 c = search needs
+
 returns : tie.Need-returns
-returns c = record { answer = rw (c .line-of .ensures, c .before .before .before .before .list-words .ensures .ended); list = c .before .before .before .before .list-words .ensures .list }
+returns c = record { answer = rw (c .line-of .ensures, c .before .before .before .before .before .before .list-words .ensures .ended); list = c .before .before .before .before .before .before .list-words .ensures .list }
 
 pub classify-with-spec : {M : Type 1} → statement M
 classify-with-spec =
-    tie.close (tie.spec list-words-requires line-of-requires same-length same-length-2 returns)
+    tie.close
+    (tie.spec list-words-requires line-of-requires same-length same-length-2 same-length-3 returns)

@@ -23,26 +23,38 @@ enum-told-2 c = search needs
 same-length : tie.Need-same-length
 same-length c = search needs
 
-returns : tie.Need-returns
-returns c = judged-past _ _ _ _ _ (c .before .before .before .before .before .judge .ensures) (c .before .r .given .1)
-
 same-length-2 : tie.Need-same-length-2
 same-length-2 c = search needs
 
-returns-2 : tie.Need-returns-2
-returns-2 c = judged-past _ _ _ _ _ (c .before .before .before .before .judge .ensures) (c .enum-told .given .1)
+returns : tie.Need-returns
+returns c = judged-past _ _ _ _ _ (c .before .before .before .before .before .before .before .judge .ensures) (c .before .r .given .1)
 
 same-length-3 : tie.Need-same-length-3
 same-length-3 c = search needs
 
-returns-3 : tie.Need-returns-3
-returns-3 c = judged-past _ _ _ _ _ (c .before .before .before .before .before .judge .ensures) (c .before .r2 .given .1)
-
 same-length-4 : tie.Need-same-length-4
 same-length-4 c = search needs
 
+returns-2 : tie.Need-returns-2
+returns-2 c = judged-past _ _ _ _ _ (c .before .before .before .before .before .before .judge .ensures) (c .enum-told .given .1)
+
+same-length-5 : tie.Need-same-length-5
+same-length-5 c = search needs
+
+same-length-6 : tie.Need-same-length-6
+same-length-6 c = search needs
+
+returns-3 : tie.Need-returns-3
+returns-3 c = judged-past _ _ _ _ _ (c .before .before .before .before .before .before .before .judge .ensures) (c .before .r2 .given .1)
+
+same-length-7 : tie.Need-same-length-7
+same-length-7 c = search needs
+
+same-length-8 : tie.Need-same-length-8
+same-length-8 c = search needs
+
 returns-4 : tie.Need-returns-4
-returns-4 c = judged-past _ _ _ _ _ (c .before .before .before .before .judge .ensures) (c .enum-told2 .given .1)
+returns-4 c = judged-past _ _ _ _ _ (c .before .before .before .before .before .before .judge .ensures) (c .enum-told2 .given .1)
 
 pub past-definition-spec : {M : Type 1} → statement M
 past-definition-spec =
@@ -54,10 +66,14 @@ past-definition-spec =
     enum-known-r-2
     enum-told-2
     same-length
-    returns
     same-length-2
-    returns-2
+    returns
     same-length-3
-    returns-3
     same-length-4
+    returns-2
+    same-length-5
+    same-length-6
+    returns-3
+    same-length-7
+    same-length-8
     returns-4)

@@ -12,9 +12,12 @@ past-definition-requires c κs = search needs
 same-length : tie.Need-same-length
 same-length c = search needs
 
+same-length-2 : tie.Need-same-length-2
+same-length-2 c = search needs
+
 returns : tie.Need-returns
 unfolding pastDirective
-returns c = rw (eq-eqb _ _ (c .before .before .before .before .if1 .taken)) (c .before .before .past-definition .ensures)
+returns c = rw (eq-eqb _ _ (c .before .before .before .before .before .before .before .if1 .taken)) (c .before .before .before .before .past-definition .ensures)
 
 form-at-requires : tie.Need-form-at-requires
 form-at-requires c κs = search needs
@@ -32,6 +35,7 @@ past-directive-spec =
     (tie.spec
     past-definition-requires
     same-length
+    same-length-2
     returns
     form-at-requires
     past-form-requires

@@ -17,11 +17,20 @@ past-directive-requires c κs = search needs
 same-length : tie.Need-same-length
 same-length c = search needs
 
+same-length-2 : tie.Need-same-length-2
+same-length-2 c = search needs
+
 returns : tie.Need-returns
 unfolding pastGrave
-returns c = rw (← c .before .before .before .before .before .part-of .ensures, ← c .before .before .before .before .directive-of .ensures) (c .before .before .past-directive .ensures)
+returns c = rw (← c .before .before .before .before .before .before .before .before .part-of .ensures, ← c .before .before .before .before .before .before .before .directive-of .ensures) (c .before .before .before .before .past-directive .ensures)
 
 pub past-grave-spec : {M : Type 1} → statement M
 past-grave-spec =
     tie.close
-    (tie.spec part-of-requires directive-of-requires past-directive-requires same-length returns)
+    (tie.spec
+    part-of-requires
+    directive-of-requires
+    past-directive-requires
+    same-length
+    same-length-2
+    returns)

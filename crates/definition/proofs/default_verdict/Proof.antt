@@ -1,11 +1,11 @@
--- `definition::default_verdict` meets its contract. A default is stored at the front of the work bytes and judged there.
+-- `definition::default_verdict` meets its contract. A default without a grave accent is judged as it is stored.
 -- Assumes nothing.
-use mathlib.Core.Path.{refl, _∙_}
+use mathlib.Core.Path.{sym, ap}
 use borrow.Author.Needs.{needs}
 use borrow.Author.Tests.{not-true, not-false}
-use Rattle.storing.specs.Judging.{badDefault}
-use Rattle.definition.specs.Answers.{over}
-use Rattle.definition.proofs.Verdicts.{settled-bad, settled-good, stored-judged, stored-short, plain-formal, grave-formal, stored-formal}
+use Rattle.afresh.specs.Feeding.{verdictOf}
+use Rattle.definition.proofs.Settling.{settled-as}
+use Rattle.definition.proofs.Verdicts.{settled-judged, settled-bad, settled-good, plain-formal, grave-formal, stored-formal}
 use Rattle.definition.proofs.default_verdict.Statement.{statement}
 use Rattle.definition.proofs.default_verdict.Tie as tie
 
@@ -18,38 +18,17 @@ has-grave-requires c κs = search needs
 returns-2 : tie.Need-returns-2
 returns-2 c = settled-bad _ (grave-formal _ _ (not-false _ (c .before .before .if1 .left)) _ (c .before .has-grave .ensures) (c .if2 .taken))
 
-store-text-requires : tie.Need-store-text-requires
-store-text-requires c κs = search needs
-
-enum-known-r : tie.Need-enum-known-r
-enum-known-r c = search needs
-
-part-of-requires : tie.Need-part-of-requires
-part-of-requires c κs = search needs
-
-default-is-bad-requires : tie.Need-default-is-bad-requires
-default-is-bad-requires c κs = search needs
+judge-stored-requires : tie.Need-judge-stored-requires
+judge-stored-requires c κs = search needs
 
 same-length : tie.Need-same-length
 same-length c = search needs
 
-returns-3 : tie.Need-returns-3
-returns-3 c = settled-bad _ (stored-formal _ _ (not-false _ (c .before .before .before .before .before .before .before .before .before .before .before .before .before .if1 .left)) _ (c .before .before .before .before .before .before .before .before .before .before .before .before .has-grave .ensures) (c .before .before .before .before .before .before .before .before .before .before .before .if2 .left) ∙ stored-judged _ _ _ _ _ _ (c .before .before .before .before .before .before .before .before .before .store-text .ensures) (c .before .before .before .before .before .r .given .1) (c .before .before .part-of .ensures) badDefault _ _ (c .before .default-is-bad .ensures) (c .if3 .taken))
-
-enum-told : tie.Need-enum-told
-enum-told c = search needs
-
 same-length-2 : tie.Need-same-length-2
 same-length-2 c = search needs
 
-returns-4 : tie.Need-returns-4
-returns-4 c = settled-good _ (stored-formal _ _ (not-false _ (c .before .before .before .before .before .before .before .before .before .before .before .before .before .if1 .left)) _ (c .before .before .before .before .before .before .before .before .before .before .before .before .has-grave .ensures) (c .before .before .before .before .before .before .before .before .before .before .before .if2 .left) ∙ stored-judged _ _ _ _ _ _ (c .before .before .before .before .before .before .before .before .before .store-text .ensures) (c .before .before .before .before .before .r .given .1) (c .before .before .part-of .ensures) badDefault _ _ (c .before .default-is-bad .ensures) (c .if3 .left))
-
-same-length-3 : tie.Need-same-length-3
-same-length-3 c = search needs
-
-returns-5 : tie.Need-returns-5
-returns-5 c = over refl (stored-short _ _ _ _ _ _ (c .before .before .before .before .store-text .ensures) (c .enum-told .given .1))
+returns-3 : tie.Need-returns-3
+returns-3 c = settled-as (ap verdictOf (sym (stored-formal _ _ (not-false _ (c .before .before .before .before .before .before .before .before .before .if1 .left)) _ (c .before .before .before .before .before .before .before .before .has-grave .ensures) (c .before .before .before .before .before .before .before .if2 .left)))) (settled-judged _ (c .before .before .before .before .judge-stored .ensures))
 
 pub default-verdict-spec : {M : Type 1} → statement M
 default-verdict-spec =
@@ -58,14 +37,7 @@ default-verdict-spec =
     returns
     has-grave-requires
     returns-2
-    store-text-requires
-    enum-known-r
-    part-of-requires
-    default-is-bad-requires
+    judge-stored-requires
     same-length
-    returns-3
-    enum-told
     same-length-2
-    returns-4
-    same-length-3
-    returns-5)
+    returns-3)

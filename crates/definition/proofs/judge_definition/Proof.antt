@@ -30,7 +30,7 @@ same-length : tie.Need-same-length
 same-length c = search needs
 
 returns : tie.Need-returns
-returns c = let a = c .before .before .before .before .before .before .before .before .before .before .before .before .before .before .args in let g = shapeBy (a .s .now) (c .before .before .before .before .before .before .before .before .before .before .head-at .result) in let k = told-shape g (c .before .before .before .before .before .before .before .before .shape-of .ensures) (c .before .before .before .before .shape .given .1) in full (defined-barred (a .s .now) (a .at) (c .before .before .before .before .before .before .before .before .before .before .before .extent-at .ensures) (c .before .before .before .before .before .before .before .before .before .before .head-at .ensures) (whole (k .formals) _) (k .shape) _ (c .before .before .bars-of .ensures) (c .if1 .taken))
+returns c = let a = c .before .before .before .before .before .before .before .before .before .before .before .before .before .before .before .args in let g = shapeBy (a .s .now) (c .before .before .before .before .before .before .before .before .before .before .head-at .result) in let k = told-shape g (c .before .before .before .before .before .before .before .before .shape-of .ensures) (c .before .before .before .before .shape .given .1) in full (defined-barred (a .s .now) (a .at) (c .before .before .before .before .before .before .before .before .before .before .before .extent-at .ensures) (c .before .before .before .before .before .before .before .before .before .before .head-at .ensures) (whole (k .formals) _) (k .shape) _ (c .before .before .bars-of .ensures) (c .if1 .taken))
 
 judge-whole-requires : tie.Need-judge-whole-requires
 judge-whole-requires c κs = search needs
@@ -45,7 +45,7 @@ same-length-2 : tie.Need-same-length-2
 same-length-2 c = search needs
 
 returns-2 : tie.Need-returns-2
-returns-2 c = let a = c .before .before .before .before .before .before .before .before .before .before .before .before .before .args in let g = shapeBy (a .s .now) (c .before .before .before .before .before .before .before .before .before .head-at .result) in full (defined-barred (a .s .now) (a .at) (c .before .before .before .before .before .before .before .before .before .before .extent-at .ensures) (c .before .before .before .before .before .before .before .before .before .head-at .ensures) ill (told-ill g (c .before .before .before .before .before .before .before .shape-of .ensures) (c .before .before .before .enum-told .given .1)) _ (c .before .before .bars-of2 .ensures) (c .if2 .taken))
+returns-2 c = let a = c .before .before .before .before .before .before .before .before .before .before .before .before .before .before .args in let g = shapeBy (a .s .now) (c .before .before .before .before .before .before .before .before .before .head-at .result) in full (defined-barred (a .s .now) (a .at) (c .before .before .before .before .before .before .before .before .before .before .extent-at .ensures) (c .before .before .before .before .before .before .before .before .before .head-at .ensures) ill (told-ill g (c .before .before .before .before .before .before .before .shape-of .ensures) (c .before .before .before .enum-told .given .1)) _ (c .before .before .bars-of2 .ensures) (c .if2 .taken))
 
 enum-told-2 : tie.Need-enum-told-2
 enum-told-2 c = search needs
@@ -53,20 +53,23 @@ enum-told-2 c = search needs
 same-length-3 : tie.Need-same-length-3
 same-length-3 c = search needs
 
-returns-3 : tie.Need-returns-3
-returns-3 c = let a = c .before .before .before .before .before .before .before .before .before .before .before .before .before .before .before .before .before .before .args in let g = shapeBy (a .s .now) (c .before .before .before .before .before .before .before .before .before .before .before .before .before .before .head-at .result) in let k = told-shape g (c .before .before .before .before .before .before .before .before .before .before .before .before .shape-of .ensures) (c .before .before .before .before .before .before .before .before .shape .given .1) in settled-as (ap judgedOf (sym (defined-judged (a .s .now) (a .at) (c .before .before .before .before .before .before .before .before .before .before .before .before .before .before .before .extent-at .ensures) (c .before .before .before .before .before .before .before .before .before .before .before .before .before .before .head-at .ensures) (whole (k .formals) _) (k .shape) _ (c .before .before .before .before .before .before .bars-of .ensures) (c .before .before .before .before .if1 .left)))) (settled-lent (omega arith) (c .before .before .judge-whole .ensures (k .formals) (k .shape) (k .count)))
-
 same-length-4 : tie.Need-same-length-4
 same-length-4 c = search needs
 
-returns-4 : tie.Need-returns-4
-returns-4 c = let a = c .before .before .before .before .before .before .before .before .before .before .before .before .before .args in let g = shapeBy (a .s .now) (c .before .before .before .before .before .before .before .before .before .head-at .result) in full (ap judgedOf (sym (defined-judged (a .s .now) (a .at) (c .before .before .before .before .before .before .before .before .before .before .extent-at .ensures) (c .before .before .before .before .before .before .before .before .before .head-at .ensures) ill (told-ill g (c .before .before .before .before .before .before .before .shape-of .ensures) (c .before .before .before .enum-told .given .1)) _ (c .before .before .bars-of2 .ensures) (c .if2 .left))))
+returns-3 : tie.Need-returns-3
+returns-3 c = let a = c .before .before .before .before .before .before .before .before .before .before .before .before .before .before .before .before .before .before .before .before .before .before .args in let g = shapeBy (a .s .now) (c .before .before .before .before .before .before .before .before .before .before .before .before .before .before .before .before .before .head-at .result) in let k = told-shape g (c .before .before .before .before .before .before .before .before .before .before .before .before .before .before .before .shape-of .ensures) (c .before .before .before .before .before .before .before .before .before .before .before .shape .given .1) in settled-as (ap judgedOf (sym (defined-judged (a .s .now) (a .at) (c .before .before .before .before .before .before .before .before .before .before .before .before .before .before .before .before .before .before .extent-at .ensures) (c .before .before .before .before .before .before .before .before .before .before .before .before .before .before .before .before .before .head-at .ensures) (whole (k .formals) _) (k .shape) _ (c .before .before .before .before .before .before .before .before .before .bars-of .ensures) (c .before .before .before .before .before .before .before .if1 .left)))) (settled-lent (omega arith) (c .before .before .before .before .judge-whole .ensures (k .formals) (k .shape) (k .count)))
 
 same-length-5 : tie.Need-same-length-5
 same-length-5 c = search needs
 
+returns-4 : tie.Need-returns-4
+returns-4 c = let a = c .before .before .before .before .before .before .before .before .before .before .before .before .before .before .args in let g = shapeBy (a .s .now) (c .before .before .before .before .before .before .before .before .before .head-at .result) in full (ap judgedOf (sym (defined-judged (a .s .now) (a .at) (c .before .before .before .before .before .before .before .before .before .before .extent-at .ensures) (c .before .before .before .before .before .before .before .before .before .head-at .ensures) ill (told-ill g (c .before .before .before .before .before .before .before .shape-of .ensures) (c .before .before .before .enum-told .given .1)) _ (c .before .before .bars-of2 .ensures) (c .if2 .left))))
+
+same-length-6 : tie.Need-same-length-6
+same-length-6 c = search needs
+
 returns-5 : tie.Need-returns-5
-returns-5 c = let a = c .before .before .before .before .before .before .before .before .before .before .args in let g = shapeBy (a .s .now) (c .before .before .before .before .before .before .head-at .result) in over refl (told-few g (c .before .before .before .before .shape-of .ensures) (c .enum-told2 .given .1))
+returns-5 c = let a = c .before .before .before .before .before .before .before .before .before .before .before .args in let g = shapeBy (a .s .now) (c .before .before .before .before .before .before .head-at .result) in over refl (told-few g (c .before .before .before .before .shape-of .ensures) (c .enum-told2 .given .1))
 
 pub judge-definition-spec : {M : Type 1} → statement M
 judge-definition-spec =
@@ -86,8 +89,9 @@ judge-definition-spec =
     returns-2
     enum-told-2
     same-length-3
-    returns-3
     same-length-4
-    returns-4
+    returns-3
     same-length-5
+    returns-4
+    same-length-6
     returns-5)

@@ -1,5 +1,6 @@
 -- `definition::step_at` meets its contract. It branches as its definition does.
 -- Assumes nothing.
+use mathlib.Core.Path.{refl}
 use native.Mathlib.Omega.{arith}
 use borrow.Author.Tests.{eq-eqb, ne-eqb}
 use Rattle.definition.specs.Lists.{stepAt}
@@ -9,7 +10,7 @@ use Rattle.definition.proofs.step_at.Tie as tie
 
 returns : tie.Need-returns
 unfolding stepAt
-returns c = simp (eq-eqb _ _ (c .if1 .taken))
+returns c = (simp (eq-eqb _ _ (c .if1 .taken)), refl)
 
 peek-requires : tie.Need-peek-requires
 peek-requires c κs = search needs

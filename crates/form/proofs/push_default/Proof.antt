@@ -4,7 +4,7 @@ use mathlib.Core.Logic.{inl}
 use native.Mathlib.Omega.{arith}
 use borrow.Author.Needs.{needs}
 use borrow.Author.Tests.{not-true, not-false}
-use Rattle.definition.proofs.Verdicts.{stored-front, stored-short}
+use Rattle.form.proofs.Working.{stored-front, stored-short}
 use Rattle.form.specs.Forms.{two}
 use Rattle.form.proofs.Pushing.{put-as, put-so, put-past, by-then, put-not}
 use Rattle.form.proofs.Formed.{default-plain, default-given}

@@ -3,9 +3,11 @@
 use Prim.Native.Nat.{_-_}
 use mathlib.Core.Logic.{inl}
 use mathlib.Core.Path.{_∙_}
+use native.Mathlib.Omega.{arith}
 use lib.ListN.{length}
 use borrow.Author.Needs.{needs}
 use Rattle.definition.proofs.Scanning.{scan-torn, scan-short, scan-less, scan-out}
+use Rattle.form.proofs.Working.{full-fewer}
 use Rattle.form.proofs.Walking.{Walking, walk-first, walk-fits, walk-next, walk-last, walk-full}
 use Rattle.form.proofs.push_formals.Statement.{statement}
 use Rattle.form.proofs.push_formals.Tie as tie
@@ -80,7 +82,7 @@ same-length-8 : tie.Need-same-length-8 Inv-loop μ-loop
 same-length-8 c = c .before .before .before .before .before .before .before .loop .inv .same-length
 
 returns-4 : tie.Need-returns-4 Inv-loop μ-loop
-returns-4 c fs e p = inl (scan-short (c .before .before .before .before .before .before .before .loop .inv .scan) (c .before .before .before .before .formal-at .ensures) (c .enum-told3 .given .1))
+returns-4 c fs e p = let a = c .before .before .before .before .before .before .before .before .before .before .before .args in inl (full-fewer (a .work .now) (length (a .s .now)) (omega (arith, c .before .before .before .before .before .before .loop-test .taken)) (omega (arith, c .before .before .before .before .before .before .before .before .before .before .before .good .0 .1)) (scan-short (c .before .before .before .before .before .before .before .loop .inv .scan) (c .before .before .before .before .formal-at .ensures) (c .enum-told3 .given .1)))
 
 same-length-9 : tie.Need-same-length-9 Inv-loop μ-loop
 same-length-9 c = c .before .loop .inv .scan .same-length

@@ -2,11 +2,13 @@
 -- Assumes nothing.
 use mathlib.Core.Logic.{inl}
 use native.Mathlib.Omega.{arith}
+use lib.ListN.{length}
 use borrow.Author.Needs.{needs}
 use Rattle.definition.specs.Definitions.{shapeBy}
 use Rattle.definition.proofs.Defining.{told-shape, told-ill, told-few}
 use Rattle.form.proofs.Formed.{form-as}
-use Rattle.form.proofs.Told.{good-shape, good-few, good-macro}
+use Rattle.form.proofs.Working.{full-fewer}
+use Rattle.form.proofs.Told.{good-shape, good-some, good-few, good-macro}
 use Rattle.form.proofs.write_form.Statement.{statement}
 use Rattle.form.proofs.write_form.Tie as tie
 
@@ -56,7 +58,7 @@ same-length-5 : tie.Need-same-length-5
 same-length-5 c = search needs
 
 returns-4 : tie.Need-returns-4
-returns-4 c m e p = let a = c .before .before .before .before .before .before .before .before .before .before .before .args in let g = shapeBy (a .s .now) (c .before .before .before .before .before .before .head-at .result) in inl (told-few g (c .before .before .before .before .shape-of .ensures) (c .enum-told2 .given .1))
+returns-4 c m e p = let a = c .before .before .before .before .before .before .before .before .before .before .before .args in let g = shapeBy (a .s .now) (c .before .before .before .before .before .before .head-at .result) in inl (full-fewer (a .work .now) (length (a .s .now)) (good-some (a .s .now) (a .at) (c .before .before .before .before .before .before .before .extent-at .ensures) (c .before .before .before .before .before .before .head-at .ensures) p) (omega (arith, c .before .before .before .before .before .before .before .before .before .before .before .good .0 .1)) (told-few g (c .before .before .before .before .shape-of .ensures) (c .enum-told2 .given .1)))
 
 pub write-form-spec : {M : Type 1} → statement M
 write-form-spec =

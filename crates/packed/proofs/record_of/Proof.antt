@@ -28,7 +28,7 @@ wide-requires-4 : tie.Need-wide-requires-4
 wide-requires-4 c κs = search needs
 
 returns : tie.Need-returns
-returns c = record-by _ _ _ _ _ (c .before .before .before .wide .ensures) (c .before .before .wide2 .ensures) (c .before .wide3 .ensures) (c .wide4 .ensures)
+returns c = record-by _ _ _ _ _ (search needs) (c .before .before .before .wide .ensures) (c .before .before .wide2 .ensures) (c .before .wide3 .ensures) (c .wide4 .ensures)
 
 pub record-of-spec : {M : Type 1} → statement M
 record-of-spec =

@@ -5,9 +5,9 @@ use Prim.Native.Nat.{_-_}
 use native.Mathlib.Omega.{arith}
 use borrow.Author.Needs.{needs}
 use Rattle.lex.specs.Tokens.{inDefinition, between, tokens}
-use Rattle.storing.specs.Judging.{graveIn, hasGrave}
+use Rattle.storing.specs.Graves.{graveIn, hasGrave}
 use Rattle.storing.proofs.Reading.{token-past}
-use Rattle.storing.proofs.Judged.{grave-out, grave-past, grave-stop, grave-hit, grave-next}
+use Rattle.storing.proofs.Accents.{grave-out, grave-past, grave-stop, grave-hit, grave-next}
 use Rattle.storing.proofs.has_grave.Statement.{statement}
 use Rattle.storing.proofs.has_grave.Tie as tie
 

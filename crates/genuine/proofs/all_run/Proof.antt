@@ -1,0 +1,55 @@
+-- `genuine::all_run` meets its contract. The invariant: the test of all from the start is that of all from `i` on.
+-- Assumes nothing.
+use borrow.Author.Needs.{needs}
+use mathlib.Core.Path.{_≡_, refl, _∙_}
+use Prim.Native.Nat.{_-_}
+use lib.ListN.{length, drop}
+use Rattle.genuine.specs.Fitness.{allRun}
+use Rattle.genuine.proofs.Testing.{each-no, each-next, each-end, each-run, no, yes}
+use Rattle.genuine.proofs.all_run.Statement.{statement}
+use Rattle.genuine.proofs.all_run.Tie as tie
+
+abbrev Inv-loop : tie.InvT-loop
+Inv-loop w at i₀ i = allRun (drop i w) ≡ allRun (drop at w)
+
+abbrev μ-loop : tie.MeasureT-loop
+μ-loop w at i₀ i = length w - i
+
+loop-holds : tie.Need-loop-holds Inv-loop μ-loop
+loop-holds c = refl
+
+shared-slice-read-is-run : tie.Need-shared-slice-read-is-run Inv-loop μ-loop
+shared-slice-read-is-run c = search needs
+
+is-run-requires : tie.Need-is-run-requires Inv-loop μ-loop
+is-run-requires c κs = search needs
+
+returns : tie.Need-returns Inv-loop μ-loop
+returns c = each-no each-run _ _ 0 (c .before .before .before .loop-test .taken) (no (c .before .is-run .ensures) (c .if1 .taken)) ∙ c .before .before .before .before .loop .inv
+
+add-i : tie.Need-add-i Inv-loop μ-loop
+add-i c = search needs
+
+loop-less : tie.Need-loop-less Inv-loop μ-loop
+loop-less c = search needs
+
+loop-again : tie.Need-loop-again Inv-loop μ-loop
+loop-again c = each-next each-run _ _ 0 (c .before .before .before .loop-test .taken) (yes (c .before .is-run .ensures) (c .if1 .left)) ∙ c .before .before .before .before .loop .inv
+
+returns-2 : tie.Need-returns-2 Inv-loop μ-loop
+returns-2 c = each-end each-run _ _ (c .loop-test .left) ∙ c .before .loop .inv
+
+pub all-run-spec : {M : Type 1} → statement M
+all-run-spec =
+    tie.close
+    (tie.spec
+    Inv-loop
+    μ-loop
+    loop-holds
+    shared-slice-read-is-run
+    is-run-requires
+    returns
+    add-i
+    loop-less
+    loop-again
+    returns-2)

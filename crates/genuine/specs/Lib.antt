@@ -1,0 +1,4 @@
+pub mod Fitness
+pub mod Spelling
+pub mod Layout
+pub mod Leaving

@@ -1,0 +1,69 @@
+-- `macros::starts_size` meets its contract. The loop's invariant: the sizes up to `i` are counted, each below 2^32.
+-- Assumes nothing.
+use Prim.Native.Nat.{_+_, _*_, _-_, _≤_}
+use mathlib.Core.Path.{_≡_}
+use native.Mathlib.Omega.{arith}
+use lib.ListN.{length, drop}
+use Rattle.macros.specs.Starting.{startsSize}
+use Rattle.macros.proofs.Showing.{plain-shorter}
+use Rattle.macros.proofs.Ranges.{size-out, size-more}
+use borrow.Author.Needs.{needs}
+use Rattle.macros.proofs.starts_size.Statement.{statement}
+use Rattle.macros.proofs.starts_size.Tie as tie
+
+abbrev Inv-loop : tie.InvT-loop
+Inv-loop s ranges i₀ n₀ i n = (i ≤ length ranges) × (n + startsSize s (drop i ranges) ≡ startsSize s ranges) × (n ≤ 4294967296 * i)
+
+abbrev μ-loop : tie.MeasureT-loop
+μ-loop s ranges i₀ n₀ i n = length ranges - i
+
+loop-holds : tie.Need-loop-holds Inv-loop μ-loop
+loop-holds c = (omega arith, omega arith, omega arith)
+
+mul-range-of : tie.Need-mul-range-of Inv-loop μ-loop
+mul-range-of c = search needs
+
+shared-slice-copy-out-range-of : tie.Need-shared-slice-copy-out-range-of Inv-loop μ-loop
+shared-slice-copy-out-range-of c = search needs
+
+range-of-requires : tie.Need-range-of-requires Inv-loop μ-loop
+range-of-requires c κs = search needs
+
+plain-name-requires : tie.Need-plain-name-requires Inv-loop μ-loop
+plain-name-requires c κs = search needs
+
+add-n : tie.Need-add-n Inv-loop μ-loop
+add-n c = omega (arith, plain-shorter (c .before .range-of .result .now) (c .plain-name .ensures), c .before .range-of .ensures .1)
+
+add-n-2 : tie.Need-add-n-2 Inv-loop μ-loop
+add-n-2 c = omega (arith, plain-shorter (c .before .range-of .result .now) (c .plain-name .ensures), c .before .range-of .ensures .1, c .before .before .before .before .before .before .pre, c .before .before .before .before .loop .inv .2, c .before .before .before .loop-test .taken)
+
+add-i : tie.Need-add-i Inv-loop μ-loop
+add-i c = search needs
+
+loop-less : tie.Need-loop-less Inv-loop μ-loop
+loop-less c = search needs
+
+loop-again : tie.Need-loop-again Inv-loop μ-loop
+loop-again c = (omega arith, omega (arith, size-more (c .before .before .before .before .before .before .args .s .now) (c .before .before .before .before .before .before .args .ranges .now) (c .before .before .before .before .loop .i) (c .before .before .before .loop-test .taken) (c .before .range-of .ensures .0) (c .plain-name .ensures), c .before .before .before .before .loop .inv .1), omega (arith, plain-shorter (c .before .range-of .result .now) (c .plain-name .ensures), c .before .range-of .ensures .1, c .before .before .before .before .loop .inv .2))
+
+returns : tie.Need-returns Inv-loop μ-loop
+returns c = omega (arith, size-out (c .before .before .before .args .s .now) (c .before .before .before .args .ranges .now) (c .before .loop .i) (c .loop-test .left), c .before .loop .inv .1)
+
+pub starts-size-spec : {M : Type 1} → statement M
+starts-size-spec =
+    tie.close
+    (tie.spec
+    Inv-loop
+    μ-loop
+    loop-holds
+    mul-range-of
+    shared-slice-copy-out-range-of
+    range-of-requires
+    plain-name-requires
+    add-n
+    add-n-2
+    add-i
+    loop-less
+    loop-again
+    returns)

@@ -32,12 +32,12 @@ none-sound : Sound []
 unfolding allFit
 none-sound = record { order = tt; fit = refl; few = omega arith }
 
-fits-few : (records bytes : ℕ) (ms : List Macro) → fits records bytes ms ≡ true → length ms ≤ 256
+pub fits-few : (records bytes : ℕ) (ms : List Macro) → fits records bytes ms ≡ true → length ms ≤ 256
 unfolding fits
 fits-few records bytes ms h =
     leb-true (length ms) 256 (and-left (leb (length ms) 256) (leb (length ms) records && leb (length (encode ms)) bytes) h)
 
-undefine-few : (w : List ℕ) (ms : List Macro) → length (undefine w ms) ≤ length ms
+pub undefine-few : (w : List ℕ) (ms : List Macro) → length (undefine w ms) ≤ length ms
 undefine-few w ms = go (find w ms) refl
   where
     go : (f : Found) → find w ms ≡ f → length (undefine w ms) ≤ length ms

@@ -1,0 +1,395 @@
+// Runs a script of definitions, removals and look-ups on standard input over one macro store, and prints what each answers.
+// A step is a letter and its fields; a number is four bytes, low first; a name or text is a number and so many bytes.
+//   N bytes records        an empty store in so many lent bytes and records
+//   S text k (start size)* start macros, as ranges of the text
+//   D text                 the definition at the start of the text
+//   U name, C              takes out a macro; all macros
+//   L name                 looks a macro up
+//   P                      prints the records and bytes
+//   F name bytes k records looks a macro up in these bytes and k records
+ghost use mathlib.Core.Path.{_≡_};
+ghost use Prim.Native.Nat.{_<_, _≤_};
+ghost use lib.ListN.{length};
+ghost use Rattle.store.specs.Buffers.{Stored};
+ghost use Rattle.macros.specs.Defining.{Ready};
+use libc::STDIN_FILENO;
+use libc::STDOUT_FILENO;
+use macros::ReadIn;
+
+// Where the next step starts, and the number of macros then.
+struct Next {
+    at: usize,
+    count: usize,
+}
+
+fn least(a: usize, b: usize) -> usize
+    ensures { λ r. ⌜ (r ≤ a) × (r ≤ b) ⌝ }
+{
+    if a < b { a } else { b }
+}
+
+fn say(w: &[u8]) {
+    io::write_all(STDOUT_FILENO, w);
+}
+
+fn say_number(n: usize) {
+    say(b" ");
+    io::print_decimal(STDOUT_FILENO, n as u64);
+}
+
+fn hex_digit(n: u8) -> u8 {
+    if n < 10 { 48 + n } else { 87 + n % 16 }
+}
+
+fn say_byte(b: u8) {
+    let w = [hex_digit(b / 16), hex_digit(b % 16)];
+    say(&w);
+}
+
+// A number that bytes give, so that many need not be printed.
+fn sum_of(w: &[u8]) -> usize
+    ensures { λ r. ⌜ r < 16777216 ⌝ }
+{
+    let mut i = 0;
+    let mut n = 0;
+    while i < w.len() {
+        n = (n * 31 + wide(w[i])) % 16777216;
+        i += 1;
+    }
+    n
+}
+
+// The length of some bytes, the number that they give, and the first 300 of them.
+fn say_bytes(w: &[u8]) {
+    say_number(w.len());
+    say_number(sum_of(w));
+    say(b" ");
+    let n = least(w.len(), 300);
+    let mut i = 0;
+    while i < n {
+        say_byte(w[i]);
+        i += 1;
+    }
+    say(b"\n");
+}
+
+fn wide(b: u8) -> usize
+    ensures { λ r. ⌜ r < 256 ⌝ }
+{
+    b as usize
+}
+
+// The number at `at`; bytes past the end count as 0.
+fn number_at(s: &[u8], at: usize) -> usize
+    requires { ⌜ at ≤ 4294967296 ⌝ }
+    ensures { λ r. ⌜ r < 4294967296 ⌝ }
+{
+    wide(text::peek(s, at))
+        + wide(text::peek(s, at + 1)) * 256
+        + wide(text::peek(s, at + 2)) * 65536
+        + wide(text::peek(s, at + 3)) * 16777216
+}
+
+// The bytes behind the number at `at`, so many as it says, as far as there are any.
+fn field_at(s: &[u8], at: usize) -> &[u8]
+    requires { ⌜ at ≤ 4294967296 ⌝ }
+    ensures { λ r. ⌜ length (now r) ≤ length (now (s .entry)) ⌝ }
+{
+    let n = number_at(s, at);
+    text::part_of(s, at + 4, at + 4 + n)
+}
+
+// The end of that field, at most the end of the script.
+fn field_end(s: &[u8], at: usize) -> usize
+    requires { ⌜ at ≤ 4294967296 ⌝ }
+    ensures { λ r. ⌜ r ≤ length (now (s .entry)) ⌝ }
+{
+    let e = at + 4 + number_at(s, at);
+    if s.len() < e { s.len() } else { e }
+}
+
+fn say_record(v: [u32; 4]) {
+    say(b"rec");
+    say_number(v[0] as usize);
+    say_number(v[1] as usize);
+    say_number(v[2] as usize);
+    say_number(v[3] as usize);
+    say(b"\n");
+}
+
+// Prints the first `count` records, how many records behind them are not blank, and the bytes.
+fn print_store(bytes: &[u8], records: &[[u32; 4]], count: usize) {
+    let mut i = 0;
+    let mut more = 0;
+    while i < records.len() {
+        if i < count {
+            say_record(records[i]);
+            i += 1;
+            continue;
+        }
+        let r = packed::read(records, i);
+        if 0 < r.start + r.name + r.text + r.size {
+            more += 1;
+            i += 1;
+            continue;
+        }
+        i += 1;
+    }
+    say(b"past");
+    say_number(more);
+    say(b"\nbytes");
+    say_bytes(bytes);
+}
+
+fn run_definition(
+    s: &[u8],
+    bytes: &mut [u8],
+    records: &mut [[u32; 4]],
+    count: usize,
+    name: &mut [u8],
+    work: &mut [u8],
+    form: &mut [u8],
+) -> usize
+    requires { ⌜ Ready (now s) (now bytes) (now records) count (now name) (now work) (now form) ⌝ }
+    ensures { λ r. ⌜ (Stored (now (bytes .exit)) (now (records .exit)) r) × (r ≤ 256) ⌝ }
+{
+    let r = macros::define_at(s, 7, bytes, records, count, name, work, form);
+    match r {
+        ReadIn::Done(n, e) => {
+            say(b"defined");
+            say_number(n);
+            say_number(e);
+            say(b"\n");
+            n
+        }
+        ReadIn::Barred(n, p) => {
+            say(b"barred");
+            say_number(n);
+            say_number(p);
+            say(b"\n");
+            count
+        }
+        ReadIn::Bad => {
+            say(b"refused 11\n");
+            count
+        }
+        ReadIn::NoRoom => {
+            say(b"refused 12\n");
+            count
+        }
+    }
+}
+
+// Copies `k` ranges, two numbers each, from `at` on; how many there is room for.
+fn fill_ranges(s: &[u8], at: usize, k: usize, ranges: &mut [[u32; 2]]) -> usize
+    requires { ⌜ (at ≤ 1073741824) × (length (now ranges) ≤ 300) ⌝ }
+    ensures { λ r. ⌜ r ≤ length (now (ranges .exit)) ⌝ }
+{
+    let n = least(k, ranges.len());
+    let mut i = 0;
+    while i < n {
+        ranges[i] = [
+            number_at(s, at + 8 * i) as u32,
+            number_at(s, at + 8 * i + 4) as u32,
+        ];
+        i += 1;
+    }
+    n
+}
+
+// Zeroes the store and defines start macros in it, if they fit; the number of macros then.
+fn run_starts(
+    s: &[u8],
+    ranges: &[[u32; 2]],
+    bytes: &mut [u8],
+    records: &mut [[u32; 4]],
+    form: &mut [u8],
+) -> usize
+    requires { ⌜ (length (now bytes) ≤ 65536) × (1025 ≤ length (now form)) ⌝ }
+    ensures { λ r. ⌜ (Stored (now (bytes .exit)) (now (records .exit)) r) × (r ≤ 256) ⌝ }
+{
+    store::zero_store(bytes, records);
+    if !macros::starts_fit(s, ranges, records.len(), bytes.len()) {
+        say(b"refused 1\n");
+        return 0;
+    }
+    let n = macros::define_starts(s, ranges, bytes, records, form);
+    say(b"starts");
+    say_number(n);
+    say(b"\n");
+    n
+}
+
+// Copies `k` records, four numbers each, from `at` on; how many there is room for.
+fn fill_records(s: &[u8], at: usize, k: usize, records: &mut [[u32; 4]]) -> usize
+    requires { ⌜ (at ≤ 1073741824) × (length (now records) ≤ 300) ⌝ }
+    ensures { λ r. ⌜ r ≤ length (now (records .exit)) ⌝ }
+{
+    let n = least(k, records.len());
+    let mut i = 0;
+    while i < n {
+        let a = at + 16 * i;
+        records[i] = [
+            number_at(s, a) as u32,
+            number_at(s, a + 4) as u32,
+            number_at(s, a + 8) as u32,
+            number_at(s, a + 12) as u32,
+        ];
+        i += 1;
+    }
+    n
+}
+
+// Looks a macro up in bytes and records of the script; the end of the step.
+fn run_foreign(s: &[u8], at: usize) -> usize
+    requires { ⌜ (at ≤ length (now s)) × (length (now s) ≤ 1000000) ⌝ }
+{
+    let b = field_end(s, at);
+    let k = field_end(s, b);
+    let mut records = [[0u32; 4]; 300];
+    let n = fill_records(s, k + 4, number_at(s, k), &mut records);
+    say(b"foreign");
+    say_bytes(macros::look_up(field_at(s, b), &records[0..n], field_at(s, at)));
+    k + 4 + 16 * n
+}
+
+fn take_out(bytes: &mut [u8], records: &mut [[u32; 4]], count: usize, w: &[u8]) -> usize
+    requires { ⌜ (length (now bytes) ≤ 65536) × (count ≤ 256) × (Stored (now bytes) (now records) count) ⌝ }
+    ensures { λ r. ⌜ (Stored (now (bytes .exit)) (now (records .exit)) r) × (r ≤ 256) ⌝ }
+{
+    let n = store::undefine(bytes, records, count, macros::plain_name(w));
+    say(b"undefined");
+    say_number(n);
+    say(b"\n");
+    n
+}
+
+fn next_at(at: usize, count: usize) -> Next
+    ensures { λ r. ⌜ (r .at ≡ at) × (r .count ≡ count) ⌝ }
+{
+    Next { at, count }
+}
+
+// Carries out the step that the letter `b` begins, whose fields start at `at`.
+fn run_step(
+    b: u8,
+    s: &[u8],
+    at: usize,
+    bytes: &mut [u8],
+    records: &mut [[u32; 4]],
+    count: usize,
+    name: &mut [u8],
+    work: &mut [u8],
+    form: &mut [u8],
+) -> Next
+    requires { ⌜ (at ≤ length (now s)) × (length (now s) ≤ 1000000) × (1025 ≤ length (now form)) × (Ready (now s) (now bytes) (now records) count (now name) (now work) (now form)) ⌝ }
+    ensures { λ r. ⌜ (Stored (now (bytes .exit)) (now (records .exit)) (r .count)) × (r .count ≤ 256) ⌝ }
+{
+    if b == 68 {
+        let n = run_definition(field_at(s, at), bytes, records, count, name, work, form);
+        return next_at(field_end(s, at), n);
+    }
+    if b == 85 {
+        let n = take_out(bytes, records, count, field_at(s, at));
+        return next_at(field_end(s, at), n);
+    }
+    if b == 67 {
+        store::undefine_all(bytes, records, count);
+        say(b"cleared\n");
+        return next_at(at, 0);
+    }
+    if b == 76 {
+        say(b"form");
+        say_bytes(macros::look_up(bytes, records, field_at(s, at)));
+        return next_at(field_end(s, at), count);
+    }
+    if b == 80 {
+        print_store(bytes, records, count);
+        return next_at(at, count);
+    }
+    if b == 70 {
+        return next_at(run_foreign(s, at), count);
+    }
+    if b == 83 {
+        let k = field_end(s, at);
+        let mut ranges = [[0u32; 2]; 300];
+        let m = fill_ranges(s, k + 4, number_at(s, k), &mut ranges);
+        let n = run_starts(field_at(s, at), &ranges[0..m], bytes, records, form);
+        return next_at(k + 4 + 8 * m, n);
+    }
+    say(b"no such step\n");
+    next_at(s.len(), count)
+}
+
+// Carries out the steps from `at` on up to the next store; where that starts.
+fn run_steps(
+    s: &[u8],
+    at: usize,
+    bytes: &mut [u8],
+    records: &mut [[u32; 4]],
+    name: &mut [u8],
+    work: &mut [u8],
+    form: &mut [u8],
+) -> usize
+    requires { ⌜ (length (now s) ≤ 1000000) × (length (now bytes) ≤ 65536) × (1025 ≤ length (now name)) × (length (now s) < length (now work)) × (length (now bytes) ≤ length (now form)) × (1025 ≤ length (now form)) ⌝ }
+{
+    store::zero_store(bytes, records);
+    let mut i = at;
+    let mut count = 0;
+    while i < s.len() {
+        let b = s[i];
+        if b == 78 {
+            return i;
+        }
+        let r = run_step(b, s, i + 1, bytes, records, count, name, work, form);
+        if r.at <= i {
+            return s.len();
+        }
+        i = r.at;
+        count = r.count;
+    }
+    i
+}
+
+// Runs the stores of the script, one after the other.
+fn run_all(s: &[u8])
+    requires { ⌜ length (now s) ≤ 1000000 ⌝ }
+{
+    let mut bytes = [170u8; 65536];
+    let mut records = [[7u32; 4]; 300];
+    let mut name = [0u8; 1025];
+    let mut work = [0u8; 1000001];
+    let mut form = [0u8; 65536];
+    let mut i = 0;
+    while i < s.len() {
+        if s[i] != 78 {
+            say(b"no store\n");
+            return;
+        }
+        let b = least(number_at(s, i + 1), 65536);
+        let r = least(number_at(s, i + 5), 300);
+        say(b"store");
+        say_number(b);
+        say_number(r);
+        say(b"\n");
+        let e = run_steps(
+            s,
+            i + 9,
+            &mut bytes[0..b],
+            &mut records[0..r],
+            &mut name,
+            &mut work,
+            &mut form,
+        );
+        if e <= i {
+            return;
+        }
+        i = e;
+    }
+}
+
+fn main() {
+    let mut input = [0u8; 1000000];
+    let n = io::read_full(STDIN_FILENO, &mut input);
+    run_all(&input[..n]);
+}

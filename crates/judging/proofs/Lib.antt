@@ -1,2 +1,9 @@
 pub mod Feeding
 pub mod Verdicts
+pub mod Shapes
+pub mod Settling
+pub mod Forming
+pub mod Settled
+pub mod Rereading
+pub mod NothingMore
+pub mod NothingMoreHeld

@@ -1,4 +1,5 @@
 -- `keywords::is_reserved` meets its contract. The words before `low` stand below the word, those from `high` on above it.
+-- Assumes nothing.
 use borrow.Author.Needs.{needs}
 use Prim.Native.Nat.{_-_}
 use native.Mathlib.Omega.{arith}

@@ -1,4 +1,5 @@
 -- `keywords::keyword_order` meets its contract. Word k lies between start k and the next.
+-- Assumes nothing.
 use borrow.Author.Needs.{needs}
 use native.Mathlib.Omega.{arith}
 use Rattle.keywords.proofs.Places.{lies, starts-number}

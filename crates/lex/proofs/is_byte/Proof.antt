@@ -1,3 +1,5 @@
+-- `lex::is_byte` meets its contract.
+-- Assumes nothing.
 use borrow.Author.Needs.{needs}
 use Rattle.lex.proofs.is_byte.Statement.{statement}
 use Rattle.lex.proofs.is_byte.Tie as tie

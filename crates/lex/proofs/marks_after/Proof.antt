@@ -1,3 +1,5 @@
+-- `lex::marks_after` meets its contract.
+-- Assumes nothing.
 use Rattle.lex.specs.Tokens.{marksAfter}
 use borrow.Author.Tests.{eq-eqb, ne-eqb}
 use Rattle.lex.proofs.marks_after.Statement.{statement}

@@ -1,3 +1,5 @@
+-- `lex::worse` meets its contract.
+-- Assumes nothing.
 use Rattle.lex.specs.Faults.{worseOf}
 use borrow.Author.Tests.{eq-eqb, ne-eqb, lt-ltb, lt-leb, le-ltb, le-leb}
 use Rattle.lex.proofs.worse.Statement.{statement}

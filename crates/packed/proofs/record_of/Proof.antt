@@ -1,3 +1,5 @@
+-- `packed::record_of` meets its contract.
+-- Assumes nothing.
 use Rattle.packed.proofs.Rows.{record-by}
 use borrow.Author.Needs.{needs}
 use Rattle.packed.proofs.record_of.Statement.{statement}

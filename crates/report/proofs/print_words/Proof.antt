@@ -1,3 +1,5 @@
+-- `report::print_words` meets its contract.
+-- Assumes nothing.
 use borrow.Author.Needs.{needs}
 use Prim.Native.Nat.{_≤_, _-_}
 use Rattle.report.proofs.print_words.Statement.{statement}

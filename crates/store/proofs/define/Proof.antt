@@ -1,4 +1,5 @@
 -- `store::define` meets its contract: the name at the front of the form finds the place.
+-- Assumes nothing.
 use Rattle.store.specs.declared.Found.the-variants.{At, Missing}
 use Rattle.store.proofs.Places.{found-below}
 use Rattle.store.proofs.Replacing.{missing-place, define-found}

@@ -1,4 +1,5 @@
 -- `store::find` meets its contract. The loop's invariant: the search from macro `i` on finds what the whole search finds.
+-- Assumes nothing.
 use Prim.Native.Nat.{_≤_, _-_}
 use mathlib.Core.Path.{_≡_, refl, sym, _∙_}
 use mathlib.Core.List.{List}

@@ -1,4 +1,5 @@
 -- `store::form_at` meets its contract: a record's form is a part of the bytes.
+-- Assumes nothing.
 use mathlib.Core.Path.{_∙_}
 use native.Mathlib.Omega.{arith}
 use Rattle.store.proofs.Entries.{entry, part-form}

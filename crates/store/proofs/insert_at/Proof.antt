@@ -1,4 +1,5 @@
 -- `store::insert_at` meets its contract: the new form between those before it and those behind it, its record likewise.
+-- Assumes nothing.
 use native.Mathlib.Omega.{arith}
 use Rattle.store.proofs.Additions.{bytes-room, text-small, text-within, inserted}
 use borrow.Author.Needs.{needs}

@@ -1,4 +1,5 @@
 -- `store::order_at` meets its contract: the part of the bytes that is compared is the name.
+-- Assumes nothing.
 use mathlib.Core.Path.{ap, _∙_}
 use native.Mathlib.Omega.{arith}
 use Rattle.text.specs.Order.{orderOf}

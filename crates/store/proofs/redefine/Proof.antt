@@ -1,4 +1,5 @@
 -- `store::redefine` meets its contract: the number of macros stays, so the bytes alone decide.
+-- Assumes nothing.
 use Rattle.store.proofs.Replacing.{old-ordered, old-live, kept-fits, replace-room, redefine-refused, redefine-done}
 use borrow.Author.Needs.{needs}
 use Rattle.store.proofs.redefine.Statement.{statement}

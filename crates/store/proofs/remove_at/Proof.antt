@@ -1,4 +1,5 @@
 -- `store::remove_at` meets its contract: bytes and records close up over the macro, and the starts behind it are lowered.
+-- Assumes nothing.
 use native.Mathlib.Omega.{arith}
 use Rattle.store.proofs.Entries.{rows-fit}
 use Rattle.store.proofs.Places.{place, taken-out}

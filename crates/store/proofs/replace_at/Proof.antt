@@ -1,4 +1,5 @@
 -- `store::replace_at` meets its contract: the new form in the old one's place, and the records behind it moved.
+-- Assumes nothing.
 use native.Mathlib.Omega.{arith}
 use Rattle.store.proofs.Additions.{text-within}
 use Rattle.store.proofs.Replacing.{old-ordered, form-small, row-there, rows-there, splice-room, replaced}

@@ -1,4 +1,5 @@
 -- `store::start_of` meets its contract: a form ends where the next starts.
+-- Assumes nothing.
 use mathlib.Core.Path.{sym, ap, _∙_}
 use native.Mathlib.Omega.{arith}
 use Rattle.store.proofs.Entries.{start, encode-none, end-is}

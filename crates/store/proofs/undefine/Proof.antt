@@ -1,4 +1,5 @@
 -- `store::undefine` meets its contract: the macro that the search finds is taken out.
+-- Assumes nothing.
 use native.Mathlib.Omega.{arith}
 use Rattle.store.proofs.Places.{found-below, undefined-at, undefined-missing}
 use borrow.Author.Needs.{needs}

@@ -1,4 +1,5 @@
 -- `store::undefine_all` meets its contract: what is live is cleared, and the rest is blank already.
+-- Assumes nothing.
 use Rattle.store.proofs.Entries.{rows-fit}
 use Rattle.store.proofs.Additions.{live-is, live-fits}
 use Rattle.store.proofs.Emptying.{emptied}

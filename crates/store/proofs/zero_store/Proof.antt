@@ -1,4 +1,5 @@
 -- `store::zero_store` meets its contract: all is cleared.
+-- Assumes nothing.
 use Rattle.store.proofs.Emptying.{zeroed}
 use borrow.Author.Needs.{needs}
 use Rattle.store.proofs.zero_store.Statement.{statement}

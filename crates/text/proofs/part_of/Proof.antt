@@ -1,3 +1,5 @@
+-- `text::part_of` meets its contract.
+-- Assumes nothing.
 use mathlib.Core.Path.{sym}
 use native.Mathlib.Nat.{le-of-lt}
 use Rattle.text.proofs.Matching.{part-none, part-out, part-cut}

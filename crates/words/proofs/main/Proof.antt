@@ -1,3 +1,5 @@
+-- `words::main` meets its contract.
+-- Assumes nothing.
 use Rattle.classify.proofs.Filled.{filled}
 use Rattle.words.proofs.main.Statement.{statement}
 use Rattle.words.proofs.main.Tie as tie

@@ -1,0 +1,84 @@
+-- One replacement: a usage with its list gives way to its macro's text with the arguments in place.
+-- Assumes nothing.
+use Prim.Native.Nat.{ℕ, max}
+use mathlib.Core.Bool.{cond}
+use mathlib.Core.Option.{Option, none, some}
+use mathlib.Core.List.{List, [], _∷_, _++_}
+use lib.ListN.{length}
+use Rattle.text.specs.Bytes.{same}
+use Rattle.lex.specs.Tokens.{inFile, inText, tokens}
+use Rattle.definition.specs.Definitions.{Parameter, parameter, Macro, macro}
+use Rattle.sets.specs.Sets.{elem, insertAsc}
+use Rattle.store.specs.Stores.{macroAt, find}
+use Rattle.store.specs.declared.Found.{Found}
+use Rattle.store.specs.declared.Found.the-variants.{At, Missing}
+use Rattle.replace.specs.Pending.{Pending, pendings, View, blanks, calls, names, opens, closes, commas, bars, plain, view}
+use Rattle.replace.specs.Arguments.{Args, bad, args, seek, tidyAll, enough}
+
+-- a default's tokens carry "the usage's set and the macro"
+abbrev pub fallback : List ℕ → Option (List ℕ) → List Pending
+fallback set none = []
+fallback set (some d) = pendings d set (tokens inFile d 0)
+
+-- "An empty argument takes the default, else nothing"
+abbrev pub orElse : List ℕ → Option (List ℕ) → List Pending → List Pending
+orElse set d [] = fallback set d
+orElse set d (p ∷ ps) = p ∷ ps
+
+-- what takes the place of the name w, if it is a formal's
+unfoldable pub value : List ℕ → List Parameter → List (List Pending) → List ℕ → Option (List Pending)
+value set [] xs w = none
+value set (parameter f d ∷ fs) [] w = let r = value set fs [] w in cond (same w f) (some (fallback set d)) r
+value set (parameter f d ∷ fs) (a ∷ xs) w = let r = value set fs xs w in cond (same w f) (some (orElse set d a)) r
+
+abbrev pub instead : Option (List Pending) → Pending → List Pending
+instead none p = p ∷ []
+instead (some a) p = a
+
+-- "Plain and escaped names equal to a formal are replaced, none inside strings"
+abbrev pub imageOf : View → Pending → (List ℕ → Option (List Pending)) → List Pending
+imageOf blanks p f = p ∷ []
+imageOf (calls w) p f = p ∷ []
+imageOf (names w) p f = instead (f w) p
+imageOf (opens c) p f = p ∷ []
+imageOf (closes b) p f = p ∷ []
+imageOf commas p f = p ∷ []
+imageOf (bars n i) p f = p ∷ []
+imageOf plain p f = p ∷ []
+
+unfoldable pub inPlace : (List ℕ → Option (List Pending)) → List Pending → List Pending
+inPlace f [] = []
+inPlace f (p ∷ ps) = imageOf (view p) p f ++ inPlace f ps
+
+-- refused (with the place of 2 to 6), or what takes the place of the usage and its list, and what follows them
+pub data Got : Type 0 where
+  refused : ℕ → ℕ → Got
+  got : List Pending → List Pending → Got
+
+-- "The stored text, read afresh, gives its tokens", with arguments in place
+abbrev pub textWith : List ℕ → List Parameter → List (List Pending) → List ℕ → List Pending
+textWith set fs xs t = inPlace (value set fs xs) (pendings t set (tokens inText t 0))
+
+abbrev pub withArgs : List ℕ → List Parameter → List ℕ → Args → Got
+withArgs set fs t (bad n i) = refused n i
+withArgs set fs t (args a xs r) =
+    cond (enough fs (length (a ∷ xs))) (got (textWith set fs (tidyAll (a ∷ xs)) t) r) (refused 15 0)
+
+-- "a macro without formals seeks none"
+abbrev pub replaceBy : Macro → List ℕ → List Pending → Got
+replaceBy (macro n [] t) set ps = got (textWith set [] [] t) ps
+replaceBy (macro n (f ∷ fs) t) set ps = withArgs set (f ∷ fs) t (seek ps)
+
+-- 13, then 16: "A usage whose macro is in its set is recursive"
+abbrev pub replaceAt : Found → List Macro → List ℕ → List Pending → Got
+replaceAt (Missing i) ms set ps = refused 13 0
+replaceAt (At i) ms set ps = cond (elem i set) (refused 16 0) (replaceBy (macroAt ms i) (insertAsc i set) ps)
+
+-- a usage of w with a set, followed by ps: 13, 16, 14 (or 2 to 6 in a file), 15
+unfoldable pub replace : List Macro → List ℕ → List ℕ → List Pending → Got
+replace ms w set ps = replaceAt (find w ms) ms set ps
+
+-- "the largest number of members that any token's set had"
+unfoldable pub deepest : List Pending → ℕ
+deepest [] = 0
+deepest (p ∷ ps) = max (length (p .own)) (deepest ps)

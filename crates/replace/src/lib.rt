@@ -1,0 +1,1 @@
+// Replacing (document 01, "Macros"): definitions and claims. The engine that is to meet them is not here yet.

@@ -50,7 +50,7 @@ fn is_short(w: &[u8]) -> bool
 }
 
 // Whether a definition can have the name `w`.
-pub fn is_fit_name(w: &[u8]) -> bool
+fn is_fit_name(w: &[u8]) -> bool
     ensures { λ r. ⌜ r ≡ fitName (now (w .entry)) ⌝ }
 {
     if !is_short(w) {

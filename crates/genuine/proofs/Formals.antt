@@ -21,14 +21,14 @@ use Rattle.genuine.proofs.Lying.{Lies, lies-none, lies-front, lies-back
 -- ---- one formal
 
 -- what the test reads at i: the name f, the mark k and the default d
-record Read (b : List ℕ) (i : ℕ) (f : List ℕ) (k : ℕ) (d : List ℕ) : Type 0 where
-  name : formalName b i ≡ f
-  mark : getD b (markAt b i) 0 ≡ k
-  size : twoAt b (markAt b i + 1) ≡ length d
-  default : formalDefault b i ≡ d
-  end : formalEnd b i ≡ i + length (sized f ++ (k ∷ sized d))
+pub record Read (b : List ℕ) (i : ℕ) (f : List ℕ) (k : ℕ) (d : List ℕ) : Type 0 where
+  pub name : formalName b i ≡ f
+  pub mark : getD b (markAt b i) 0 ≡ k
+  pub size : twoAt b (markAt b i + 1) ≡ length d
+  pub default : formalDefault b i ≡ d
+  pub end : formalEnd b i ≡ i + length (sized f ++ (k ∷ sized d))
 
-read : (b : List ℕ) (i : ℕ) (f : List ℕ) (k : ℕ) (d : List ℕ) → length b ≤ 65536 → Lies b i (sized f ++ (k ∷ sized d)) → Read b i f k d
+pub read : (b : List ℕ) (i : ℕ) (f : List ℕ) (k : ℕ) (d : List ℕ) → length b ≤ 65536 → Lies b i (sized f ++ (k ∷ sized d)) → Read b i f k d
 read b i f k d small h =
     let n : length (sized f ++ (k ∷ sized d)) ≡ length f + 2 + (length d + 3) = length-append (sized f) (k ∷ sized d) ∙ omega arith in
     let hf : Lies b i (sized f) = lies-front (sized f) (k ∷ sized d) h in
@@ -63,15 +63,15 @@ formal-lies b i s h =
     (omega arith)
 
 -- the mark and the bytes of a default
-abbrev markOf : Option (List ℕ) → ℕ
+abbrev pub markOf : Option (List ℕ) → ℕ
 markOf none = 0
 markOf (some d) = 1
 
-abbrev bytesOf : Option (List ℕ) → List ℕ
+abbrev pub bytesOf : Option (List ℕ) → List ℕ
 bytesOf none = []
 bytesOf (some d) = d
 
-parameter-form : (f : List ℕ) (d : Option (List ℕ)) → parameterForm (parameter f d) ≡ sized f ++ (markOf d ∷ sized (bytesOf d))
+pub parameter-form : (f : List ℕ) (d : Option (List ℕ)) → parameterForm (parameter f d) ≡ sized f ++ (markOf d ∷ sized (bytesOf d))
 parameter-form f none = refl
 parameter-form f (some d) = refl
 

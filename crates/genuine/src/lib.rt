@@ -119,7 +119,7 @@ fn is_fit_stored(w: &[u8], text: bool, name: &mut [u8], stack: &mut [u8]) -> boo
 }
 
 // Two bytes of length, low first.
-fn two_at(b: &[u8], i: usize) -> usize
+pub fn two_at(b: &[u8], i: usize) -> usize
     requires { ⌜ i ≤ 4611686018427387904 ⌝ }
     ensures { λ r. ⌜ (r ≡ twoAt (now (b .entry)) i) × (r ≤ 65535) ⌝ }
 {
@@ -127,7 +127,7 @@ fn two_at(b: &[u8], i: usize) -> usize
 }
 
 // Where the mark of the formal at `i` stands.
-fn mark_at(b: &[u8], i: usize) -> usize
+pub fn mark_at(b: &[u8], i: usize) -> usize
     requires { ⌜ i ≤ 4611686018427387904 ⌝ }
     ensures { λ r. ⌜ (r ≡ markAt (now (b .entry)) i) × (r ≤ i + 65537) ⌝ }
 {
@@ -135,7 +135,7 @@ fn mark_at(b: &[u8], i: usize) -> usize
 }
 
 // Where the formal at `i` ends.
-fn formal_end(b: &[u8], i: usize) -> usize
+pub fn formal_end(b: &[u8], i: usize) -> usize
     requires { ⌜ i ≤ 2305843009213693952 ⌝ }
     ensures { λ r. ⌜ (r ≡ formalEnd (now (b .entry)) i) × (r ≤ i + 131075) ⌝ }
 {
@@ -143,7 +143,7 @@ fn formal_end(b: &[u8], i: usize) -> usize
     m + 3 + two_at(b, m + 1)
 }
 
-fn formal_name(b: &[u8], i: usize) -> &[u8]
+pub fn formal_name(b: &[u8], i: usize) -> &[u8]
     requires { ⌜ i ≤ 2305843009213693952 ⌝ }
     ensures { λ r. ⌜ now r ≡ formalName (now (b .entry)) i ⌝ }
 {

@@ -1,2 +1,7 @@
-pub mod Computing
-pub mod Claims
+pub mod Tidying
+pub mod Trimming
+pub mod Keeping
+pub mod Formals
+pub mod Values
+pub mod Stacking
+pub mod Texts

@@ -1,5 +1,3 @@
-pub mod Written
-pub mod Pending
-pub mod Arguments
+pub mod Tidying
 pub mod Replacing
-pub mod Expanding
+pub mod Placing

@@ -1,7 +1,7 @@
 -- One replacement: a usage with its list gives way to its macro's text with the arguments in place.
 -- Assumes nothing.
-use Prim.Native.Nat.{ℕ, max}
-use mathlib.Core.Bool.{cond}
+use Prim.Native.Nat.{ℕ, zero, suc, max}
+use mathlib.Core.Bool.{Bool, true, false, cond, _&&_}
 use mathlib.Core.Option.{Option, none, some}
 use mathlib.Core.List.{List, [], _∷_, _++_}
 use lib.ListN.{length}
@@ -12,13 +12,14 @@ use Rattle.sets.specs.Sets.{elem, insertAsc}
 use Rattle.store.specs.Stores.{macroAt, find}
 use Rattle.store.specs.declared.Found.{Found}
 use Rattle.store.specs.declared.Found.the-variants.{At, Missing}
-use Rattle.replace.specs.Pending.{Pending, pendings, View, blanks, calls, names, opens, closes, commas, bars, plain, view}
-use Rattle.replace.specs.Arguments.{Args, bad, args, seek, tidyAll, enough}
+use Rattle.pending.specs.Pending.{Pending, textTokens, View, blanks, calls, names, opens, closes, commas, bars, plain, view}
+use Rattle.arguments.specs.Arguments.{Args, bad, args, seek}
+use Rattle.replace.specs.Tidying.{tidyAll}
 
 -- a default's tokens carry "the usage's set and the macro"
 abbrev pub fallback : List ℕ → Option (List ℕ) → List Pending
 fallback set none = []
-fallback set (some d) = pendings d set (tokens inFile d 0)
+fallback set (some d) = textTokens d set (tokens inFile d 0)
 
 -- "An empty argument takes the default, else nothing"
 abbrev pub orElse : List ℕ → Option (List ℕ) → List Pending → List Pending
@@ -46,6 +47,10 @@ imageOf commas p f = p ∷ []
 imageOf (bars n i) p f = p ∷ []
 imageOf plain p f = p ∷ []
 
+-- of one token of the text, with these arguments
+abbrev pub imageIn : List ℕ → List Parameter → List (List Pending) → Pending → List Pending
+imageIn set fs xs p = imageOf (view p) p (value set fs xs)
+
 unfoldable pub inPlace : (List ℕ → Option (List Pending)) → List Pending → List Pending
 inPlace f [] = []
 inPlace f (p ∷ ps) = imageOf (view p) p f ++ inPlace f ps
@@ -57,17 +62,40 @@ pub data Got : Type 0 where
 
 -- "The stored text, read afresh, gives its tokens", with arguments in place
 abbrev pub textWith : List ℕ → List Parameter → List (List Pending) → List ℕ → List Pending
-textWith set fs xs t = inPlace (value set fs xs) (pendings t set (tokens inText t 0))
+textWith set fs xs t = inPlace (value set fs xs) (textTokens t set (tokens inText t 0))
 
-abbrev pub withArgs : List ℕ → List Parameter → List ℕ → Args → Got
-withArgs set fs t (bad n i) = refused n i
-withArgs set fs t (args a xs r) =
-    cond (enough fs (length (a ∷ xs))) (got (textWith set fs (tidyAll (a ∷ xs)) t) r) (refused 15 0)
+abbrev pub hasDefault : Parameter → Bool
+hasDefault (parameter f none) = false
+hasDefault (parameter f (some d)) = true
 
--- "a macro without formals seeks none"
+-- 15: so many arguments are accepted; "missing last ones need defaults"
+unfoldable pub enough : List Parameter → ℕ → Bool
+enough [] zero = true
+enough [] (suc n) = false
+enough (f ∷ fs) zero = hasDefault f && enough fs zero
+enough (f ∷ fs) (suc n) = enough fs n
+
+-- the arguments of a usage and what follows its list, or refused
+pub data Listed : Type 0 where
+  barred : ℕ → ℕ → Listed
+  listed : List (List Pending) → List Pending → Listed
+
+-- "A list is accepted if none of 2 to 6, 14 and 15 bars it"
+abbrev pub accepted : List Parameter → Args → Listed
+accepted fs (bad n i) = barred n i
+accepted fs (args a xs r) = cond (enough fs (length (a ∷ xs))) (listed (a ∷ xs) r) (barred 15 0)
+
+-- the list of a usage of a macro with these formals, followed by ps; "a macro without formals seeks none"
+abbrev pub listFor : List Parameter → List Pending → Listed
+listFor [] ps = listed [] ps
+listFor (f ∷ fs) ps = accepted (f ∷ fs) (seek ps)
+
+abbrev pub withList : List ℕ → List Parameter → List ℕ → Listed → Got
+withList set fs t (barred n i) = refused n i
+withList set fs t (listed xs r) = got (textWith set fs (tidyAll xs) t) r
+
 abbrev pub replaceBy : Macro → List ℕ → List Pending → Got
-replaceBy (macro n [] t) set ps = got (textWith set [] [] t) ps
-replaceBy (macro n (f ∷ fs) t) set ps = withArgs set (f ∷ fs) t (seek ps)
+replaceBy (macro n fs t) set ps = withList set fs t (listFor fs ps)
 
 -- 13, then 16: "A usage whose macro is in its set is recursive"
 abbrev pub replaceAt : Found → List Macro → List ℕ → List Pending → Got

@@ -27,10 +27,10 @@ unfolding joinedFrom
 joined-more s i e esc h l = rw (part-more s i e h l)
 
 -- a `\` that is not given out yet counts for one byte more
-abbrev due : Bool → ℕ → ℕ
+abbrev pub due : Bool → ℕ → ℕ
 due esc n = cond esc (suc n) n
 
-joined-length : (esc : Bool) (xs : List ℕ) → length (joinedFrom esc xs) ≤ due esc (length xs)
+pub joined-length : (esc : Bool) (xs : List ℕ) → length (joinedFrom esc xs) ≤ due esc (length xs)
 unfolding joinedFrom
 joined-length true [] = le-refl 1
 joined-length false [] = le-refl 0

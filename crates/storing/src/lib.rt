@@ -27,7 +27,7 @@ pub enum Stored {
 }
 
 // Adds a byte behind the first `n`; none that is white space where nothing stands behind `from` yet.
-fn put_byte(out: &mut [u8], from: usize, n: usize, b: u8) -> Stored
+pub fn put_byte(out: &mut [u8], from: usize, n: usize, b: u8) -> Stored
     requires { ⌜ (from ≤ n) × (n ≤ length (now out)) ⌝ }
     ensures { λ r. ⌜ AddedBy r (now (out .entry)) (now (out .exit)) from n (b ∷ []) ⌝ }
 {
@@ -42,7 +42,7 @@ fn put_byte(out: &mut [u8], from: usize, n: usize, b: u8) -> Stored
 }
 
 // Adds the bytes of `s` from `at` to before `end`.
-fn put_bytes(s: &[u8], at: usize, end: usize, out: &mut [u8], from: usize, n: usize) -> Stored
+pub fn put_bytes(s: &[u8], at: usize, end: usize, out: &mut [u8], from: usize, n: usize) -> Stored
     requires { ⌜ (from ≤ n) × (n ≤ length (now out)) ⌝ }
     ensures { λ r. ⌜ AddedBy r (now (out .entry)) (now (out .exit)) from n (part (now (s .entry)) at end) ⌝ }
 {
@@ -108,7 +108,7 @@ fn put_rest(out: &mut [u8], from: usize, n: usize, escaped: bool) -> Stored
 }
 
 // Adds a string's bytes without each `\` before a newline.
-fn put_joined(s: &[u8], at: usize, end: usize, out: &mut [u8], from: usize, n: usize) -> Stored
+pub fn put_joined(s: &[u8], at: usize, end: usize, out: &mut [u8], from: usize, n: usize) -> Stored
     requires { ⌜ (from ≤ n) × (n ≤ length (now out)) ⌝ }
     ensures { λ r. ⌜ AddedBy r (now (out .entry)) (now (out .exit)) from n (joinedFrom false (part (now (s .entry)) at end)) ⌝ }
 {

@@ -2,7 +2,7 @@
 -- Assumes nothing.
 use borrow.Author.Tests.{not-false}
 use mathlib.Core.Path.{sym, _∙_}
-use Rattle.store_cases.proofs.Steps.{after-starts}
+use Rattle.script.proofs.Steps.{after-starts}
 use borrow.Author.Needs.{needs}
 use Rattle.store_cases.proofs.run_starts.Statement.{statement}
 use Rattle.store_cases.proofs.run_starts.Tie as tie

@@ -2,7 +2,7 @@
 -- Assumes nothing.
 use native.Mathlib.Omega.{arith}
 use mathlib.Core.List.{[]}
-use Rattle.store_cases.proofs.Steps.{renamed}
+use Rattle.script.proofs.Steps.{renamed}
 use borrow.Author.Needs.{needs}
 use Rattle.store_cases.proofs.run_step.Statement.{statement}
 use Rattle.store_cases.proofs.run_step.Tie as tie

@@ -5,7 +5,7 @@ use native.Mathlib.Omega.{arith}
 use Prim.Native.Nat.{_-_}
 use mathlib.Core.List.{[]}
 use lib.ListN.{length}
-use Rattle.store_cases.proofs.Steps.{Running}
+use Rattle.script.proofs.Steps.{Running}
 use Rattle.store_cases.proofs.run_steps.Statement.{statement}
 use Rattle.store_cases.proofs.run_steps.Tie as tie
 

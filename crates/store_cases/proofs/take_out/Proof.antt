@@ -1,6 +1,6 @@
 -- `store_cases::take_out` meets its contract: a removal leaves no more macros.
 -- Assumes nothing.
-use Rattle.store_cases.proofs.Steps.{after-removal}
+use Rattle.script.proofs.Steps.{after-removal}
 use borrow.Author.Needs.{needs}
 use Rattle.store_cases.proofs.take_out.Statement.{statement}
 use Rattle.store_cases.proofs.take_out.Tie as tie

@@ -1,0 +1,6 @@
+pub mod Computing
+pub mod Claims
+pub mod Calling
+pub mod Replacing
+pub mod Spelling
+pub mod Running

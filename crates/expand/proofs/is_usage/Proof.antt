@@ -1,0 +1,22 @@
+-- `expand::is_usage` meets its contract: a usage is a grave accent name that is no directive's.
+-- Assumes nothing.
+use borrow.Author.Tests.{ne-eqb}
+use borrow.Author.Needs.{needs}
+use Rattle.expand.proofs.Spelling.{usage-none, usage-grave}
+use Rattle.expand.proofs.is_usage.Statement.{statement}
+use Rattle.expand.proofs.is_usage.Tie as tie
+
+returns : tie.Need-returns
+returns c = usage-none _ _ _ (ne-eqb _ _ (c .if1 .taken))
+
+name-of-requires : tie.Need-name-of-requires
+name-of-requires c κs = search needs
+
+directive-of-requires : tie.Need-directive-of-requires
+directive-of-requires c κs = search needs
+
+returns-2 : tie.Need-returns-2
+returns-2 c = usage-grave _ _ _ (c .before .before .if1 .left) _ _ (c .directive-of .ensures) (c .before .name-of .ensures)
+
+pub is-usage-spec : {M : Type 1} → statement M
+is-usage-spec = tie.close (tie.spec returns name-of-requires directive-of-requires returns-2)

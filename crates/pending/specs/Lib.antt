@@ -1,0 +1,4 @@
+pub mod Pending
+pub mod References
+pub mod Sources
+pub mod Adding

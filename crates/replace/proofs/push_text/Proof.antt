@@ -1,0 +1,130 @@
+-- `replace::push_text` meets its contract. The invariant: what takes the place of the tokens before `i` is added.
+-- Assumes nothing.
+use Prim.Native.Nat.{ℕ, _-_, _≤_}
+use mathlib.Core.List.{List}
+use mathlib.Core.Path.{_≡_, refl, _∙_}
+use native.Mathlib.Omega.{arith}
+use lib.ListN.{length}
+use borrow.Author.Needs.{needs}
+use Rattle.definition.specs.Definitions.{Parameter}
+use Rattle.sets.specs.Sets.{members}
+use Rattle.pending.specs.Pending.{Pending}
+use Rattle.pending.specs.Sources.{itemsFrom, lastOf}
+use Rattle.arguments.specs.Ranges.{Ranged}
+use Rattle.replace.specs.Tidying.{tidyAll}
+use Rattle.replace.specs.Placing.{MacroIn}
+use Rattle.replace.proofs.Texts.{Placed, placed-none, placed-more, placed-full, placed-all, part-own, token-inside, token-on}
+use Rattle.replace.proofs.push_text.Statement.{statement}
+use Rattle.replace.proofs.push_text.Tie as tie
+
+abbrev Inv-loop : tie.InvT-loop
+Inv-loop s b q list n file ranges given set out₀ most w c count i₀ k₀ marks₀ out i k marks =
+    (length out ≡ length out₀)
+    × (k ≤ most)
+    × ((fs : List Parameter) (t : List ℕ) (xs : List (List Pending)) → MacroIn b q fs t → given ≡ length xs
+    → Ranged (itemsFrom s b list n file) (lastOf s n file) ranges xs → Placed s b w (members set) fs (tidyAll xs) out₀ out most k i marks)
+
+abbrev μ-loop : tie.MeasureT-loop
+μ-loop s b q list n file ranges given set out₀ most w c count i₀ k₀ marks₀ out i k marks = length w - i
+
+add-part-of : tie.Need-add-part-of Inv-loop μ-loop
+add-part-of c = omega arith
+
+part-of-requires : tie.Need-part-of-requires Inv-loop μ-loop
+part-of-requires c κs = search needs
+
+add-c : tie.Need-add-c Inv-loop μ-loop
+add-c c = omega arith
+
+peek-requires : tie.Need-peek-requires Inv-loop μ-loop
+peek-requires c κs = search needs
+
+cast-count : tie.Need-cast-count Inv-loop μ-loop
+cast-count c = omega arith
+
+loop-holds : tie.Need-loop-holds Inv-loop μ-loop
+loop-holds c = (refl, omega arith, λ fs t xs m g r. placed-none)
+
+in-text-requires : tie.Need-in-text-requires Inv-loop μ-loop
+in-text-requires c κs = search needs
+
+token-at-requires : tie.Need-token-at-requires Inv-loop μ-loop
+token-at-requires c κs = search needs
+
+add-push-image : tie.Need-add-push-image Inv-loop μ-loop
+add-push-image c = omega arith
+
+push-image-requires : tie.Need-push-image-requires Inv-loop μ-loop
+push-image-requires c κs =
+    let h = c .before .before .before .before .before .before .before .before .before .before .before .pre in
+    record {
+      filled = h .0;
+      ranges = h .1;
+      bytes = h .2;
+      formals = omega (arith, c .before .before .before .before .before .peek .ok);
+      first-small = omega (arith, h .3);
+      part-is = part-own _ _ _ _ (c .before .before .before .before .before .before .before .part-of .ensures);
+      base-small = omega (arith, h .3);
+      inside = token-inside _ _ _ _ (c .before .token-at .ensures) (c .before .before .before .loop-test .taken);
+      takes = record { filled = c .before .before .before .before .loop .inv .1; lent = omega (arith, h .4, c .before .before .before .before .loop .inv .0) };
+    }
+
+enum-known-r : tie.Need-enum-known-r Inv-loop μ-loop
+enum-known-r c = search needs
+
+marks-after-requires : tie.Need-marks-after-requires Inv-loop μ-loop
+marks-after-requires c κs = search needs
+
+loop-less : tie.Need-loop-less Inv-loop μ-loop
+loop-less c = omega (arith, token-on _ _ _ _ (c .before .before .before .before .before .before .before .token-at .ensures) (c .before .before .before .before .before .before .before .before .before .loop-test .taken))
+
+loop-again : tie.Need-loop-again Inv-loop μ-loop
+loop-again c =
+    let u = c .before .before .before .before .before .before .before .before .before .before .before .before .before .before .before .before .before .pre .5 in
+    let same = c .before .before .before .before .before .push-image .kept .1 .1 .1 .1 .1 .1 .1 .1 .1 .1 .1 .1 .1 .0 ∙ c .before .before .before .before .before .before .before .before .before .before .loop .inv .0 in (
+      same,
+      placed-more (c .before .before .before .before .before .before .before .before .before .before .loop .inv .2 (u .formals) (u .text) (u .arguments) (u .macro-in) (u .count) (u .ranged)) _ _ (c .before .before .before .before .before .push-image .result) _ _ _ (c .before .before .before .before .before .before .before .before .before .loop-test .taken) (c .before .before .before .before .before .before .before .before .in-text .ensures) (c .before .before .before .before .before .before .before .token-at .ensures) (c .before .before .r .given .1) (c .before .before .before .before .before .push-image .ensures (u .arguments) (u .formals) (u .macro-in .formals) (c .before .before .before .before .before .before .before .before .before .before .before .peek .ensures ∙ u .macro-in .count) (u .count) (u .ranged)) (c .marks-after .ensures) .adds .fits,
+      λ fs t xs m g r. placed-more (c .before .before .before .before .before .before .before .before .before .before .loop .inv .2 fs t xs m g r) _ _ (c .before .before .before .before .before .push-image .result) _ _ _ (c .before .before .before .before .before .before .before .before .before .loop-test .taken) (c .before .before .before .before .before .before .before .before .in-text .ensures) (c .before .before .before .before .before .before .before .token-at .ensures) (c .before .before .r .given .1) (c .before .before .before .before .before .push-image .ensures xs fs (m .formals) (c .before .before .before .before .before .before .before .before .before .before .before .peek .ensures ∙ m .count) g r) (c .marks-after .ensures),
+    )
+
+enum-told : tie.Need-enum-told Inv-loop μ-loop
+enum-told c = search needs
+
+same-length : tie.Need-same-length Inv-loop μ-loop
+same-length c = c .before .before .before .push-image .kept .1 .1 .1 .1 .1 .1 .1 .1 .1 .1 .1 .1 .1 .0 ∙ c .before .before .before .before .before .before .before .before .loop .inv .0
+
+returns : tie.Need-returns Inv-loop μ-loop
+returns c fs t xs m g r =
+    placed-full (c .before .before .before .before .before .before .before .before .loop .inv .2 fs t xs m g r) _ _ (c .before .before .before .push-image .result) _ t (c .before .before .before .before .before .before .before .loop-test .taken) (c .before .before .before .before .before .before .in-text .ensures) (c .before .before .before .before .before .token-at .ensures) (c .enum-told .given .1) (c .before .before .before .push-image .ensures xs fs (m .formals) (c .before .before .before .before .before .before .before .before .before .peek .ensures ∙ m .count) g r) (c .before .before .before .before .before .before .before .before .before .before .before .part-of .ensures ∙ m .text)
+
+same-length-2 : tie.Need-same-length-2 Inv-loop μ-loop
+same-length-2 c = c .before .loop .inv .0
+
+returns-2 : tie.Need-returns-2 Inv-loop μ-loop
+returns-2 c fs t xs m g r = placed-all (c .before .loop .inv .2 fs t xs m g r) t (c .loop-test .left) (c .before .before .before .before .part-of .ensures ∙ m .text)
+
+pub push-text-spec : {M : Type 1} → statement M
+push-text-spec =
+    tie.close
+    (tie.spec
+    Inv-loop
+    μ-loop
+    add-part-of
+    part-of-requires
+    add-c
+    peek-requires
+    cast-count
+    loop-holds
+    in-text-requires
+    token-at-requires
+    add-push-image
+    push-image-requires
+    enum-known-r
+    marks-after-requires
+    loop-less
+    loop-again
+    enum-told
+    same-length
+    returns
+    same-length-2
+    returns-2)

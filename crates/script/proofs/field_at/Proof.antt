@@ -1,0 +1,36 @@
+-- `script::field_at` meets its contract: a part of a text is no longer than it.
+-- Assumes nothing.
+use Prim.Native.Nat.{ℕ, _+_, _-_, _≤_}
+use native.Mathlib.Omega.{arith}
+use mathlib.Core.List.{List}
+use lib.ListN.{length, drop, length-take, length-drop}
+use Rattle.text.specs.Bytes.{part}
+use borrow.Author.Needs.{needs}
+use Rattle.script.proofs.field_at.Statement.{statement}
+use Rattle.script.proofs.field_at.Tie as tie
+
+within : (s : List ℕ) (a e : ℕ) → length (part s a e) ≤ length s
+within s a e = omega (arith, length-take (e - a) (drop a s), length-drop a s)
+
+number-at-requires : tie.Need-number-at-requires
+number-at-requires c κs = search needs
+
+add-part-of : tie.Need-add-part-of
+add-part-of c = search needs
+
+add-part-of-2 : tie.Need-add-part-of-2
+add-part-of-2 c = search needs
+
+add-part-of-3 : tie.Need-add-part-of-3
+add-part-of-3 c = search needs
+
+part-of-requires : tie.Need-part-of-requires
+part-of-requires c κs = search needs
+
+returns : tie.Need-returns
+returns c = rw (c .part-of .ensures) (within (c .before .before .before .args .s .now) (c .before .before .before .args .at + 4) (c .before .before .before .args .at + 4 + c .before .number-at .result))
+
+pub field-at-spec : {M : Type 1} → statement M
+field-at-spec =
+    tie.close
+    (tie.spec number-at-requires add-part-of add-part-of-2 add-part-of-3 part-of-requires returns)

@@ -1,0 +1,22 @@
+-- Opens every definition that a hand-over is flattened by, for worked examples: `unfolding flattening`.
+-- Assumes nothing.
+use Prim.Native.Nat.{ℕ}
+use Rattle.directive.specs.Words.{wordIn, wordAt}
+use Rattle.directive.specs.Forms.{nameForm, aloneValue, formAt}
+use Rattle.definition.proofs.Computing.{defining}
+use Rattle.store.specs.Stores.{define, undefine, encode, fits}
+use Rattle.form.specs.Forms.{parameterForms, headForm, formOf}
+use Rattle.macros.specs.Starting.{allStarts, startedFrom, startsFit}
+use Rattle.expand.proofs.Computing.{expanding}
+use Rattle.places.specs.Places.{newlines, lineAt, decimal}
+use Rattle.blocks.specs.Blocks.{openBlock, nextBlock, closeBlock}
+use Rattle.copying.specs.Cursors.{cursorPast, cursorBehind}
+use Rattle.handover.specs.Entries.{nameBytes, isFileName, isEntry, allEntries, entryOf}
+use Rattle.handover.specs.Sizes.{isSound}
+use Rattle.turns.specs.Turns.{conditionalTurn}
+use Rattle.turns.specs.Usages.{takenTurn, tokenTurn, turnAt}
+use Rattle.turns.specs.Runs.{runFor, power, measure, runFrom, flattened}
+
+unfoldable pub flattening : ℕ
+unfolding defining expanding wordIn wordAt nameForm aloneValue formAt define undefine encode fits parameterForms headForm formOf allStarts startedFrom startsFit newlines lineAt decimal openBlock nextBlock closeBlock cursorPast cursorBehind nameBytes isFileName isEntry allEntries entryOf isSound conditionalTurn takenTurn tokenTurn turnAt runFor power measure runFrom flattened
+flattening = 0

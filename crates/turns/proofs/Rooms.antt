@@ -1,0 +1,321 @@
+-- What is written fits the rooms lent for text and map, and the map has one number for each line of the text.
+-- Assumes nothing.
+use Prim.Native.Nat.{ℕ, zero, suc, _-_, _≤_}
+use mathlib.Core.Bool.{Bool, true, false, cond, not, _&&_, _||_}
+use mathlib.Core.Option.{Option, none, some}
+use mathlib.Core.List.{List, [], _∷_, _++_, append-nil}
+use mathlib.Core.Path.{_≡_, refl, ap, subst}
+use native.Mathlib.Nat.{sub-zero}
+use native.Mathlib.Omega.{arith}
+use lib.Dec.{eqb, leb, ltb}
+use lib.ListN.{length, getD, length-append}
+use borrow.Author.Tests.{ltb-false}
+use Rattle.text.specs.Bytes.{part}
+use Rattle.lex.specs.Tokens.{Grave, End, is, nameOf}
+use Rattle.lex.proofs.Tests.{by-test}
+use Rattle.names.specs.Names.{FileWord, LineWord, Define, Undef, UndefineAll, Ifdef, Elsif, Else, Endif, Include, Resetall, EndKeywords, directiveOf}
+use Rattle.directive.specs.declared.Value.{Value}
+use Rattle.directive.specs.declared.Form.{Form}
+use Rattle.directive.specs.declared.Form.the-variants.{Formed, Unformed, Barred}
+use Rattle.directive.specs.declared.FileName.{FileName}
+use Rattle.directive.specs.declared.FileName.the-variants.{Unnamed, Quoted, Angled}
+use Rattle.directive.specs.declared.IncludeLine.{IncludeLine}
+use Rattle.directive.specs.Include.{includeAt}
+use Rattle.definition.specs.Definitions.{Macro, Definition, barred, bad, good, definitionAt}
+use Rattle.store.specs.Stores.{define, fits}
+use Rattle.settings.specs.declared.Settings.{Settings}
+use Rattle.writing.specs.Written.{Written, put, placed, textOf, mapOf, freshAfter, Room, Put, full, fitted, putIn}
+use Rattle.writing.proofs.Laws.{text-length, map-append}
+use Rattle.pending.specs.Pending.{Pending, View, blanks, calls, names, opens, closes, commas, bars, plain, view}
+use Rattle.replace.specs.Replacing.{Got, refused, got, replace}
+use Rattle.blocks.specs.Blocks.{Conditional, takenBy, openBlock, nextBlock, closeBlock}
+use Rattle.handover.specs.Entries.{entryOf}
+use Rattle.handover.specs.Sizes.{HandOver, Rooms, isSound}
+use Rattle.expand.specs.Expanding.{Outer, Expansion, Next, dealBy, onGot, walk, onward, onPut as puts, writes as spells, first, goesOn, expand}
+use Rattle.turns.specs.States.{Context, Frame, State, Turn, more, stop, finished, Here, onPut, write, goTo, refuseAt, roomAfter}
+use Rattle.turns.specs.Turns.{copyTurn, skipTurn, endTurn, onForm, onBlocks, isDefined, formHere, openTurn, conditionTurn, conditionalTurn, defineTurn, hideTurn, undefTurn, enterTurn, includeBy, includeTurn, keepTurn, wordTurn}
+use Rattle.turns.specs.Usages.{afterUsage, usageTurn, takenTurn, ignoredTurn, graveTurn, tokenTurn, lastTurn, hereAt, frameTurn, turnAt, outerOf}
+use Rattle.turns.specs.Runs.{Run, Outcome, follow, runFor, measure, runFrom, contextOf, startOf, flattened}
+use Rattle.turns.specs.Lines.{linesFrom, linesIn}
+
+-- ---- bytes in a room
+
+-- what is written has room
+pub record Fits (r : Room) (ws : List Written) : Type 0 where
+  pub in-text : length ws ≤ r .bytes
+  pub in-map : length (mapOf (r .fresh) ws) ≤ r .lines
+
+pub fits-none : (r : Room) → Fits r []
+unfolding mapOf
+fits-none r = record { in-text = omega arith; in-map = omega arith }
+
+room-same : (r : Room) → r ≡ roomAfter r []
+unfolding mapOf freshAfter
+room-same r = rw (sub-zero (r .bytes), sub-zero (r .lines))
+
+pub fits-append : (r : Room) (ws vs : List Written) → Fits r ws → Fits (roomAfter r ws) vs → Fits r (ws ++ vs)
+fits-append r ws vs a b =
+    let t : length ws ≤ r .bytes = a .in-text in
+    let t′ : length vs ≤ r .bytes - length ws = b .in-text in
+    let m : length (mapOf (r .fresh) ws) ≤ r .lines = a .in-map in
+    let m′ : length (mapOf (freshAfter (r .fresh) ws) vs) ≤ r .lines - length (mapOf (r .fresh) ws) = b .in-map in
+    record {
+      in-text = rw length-append (omega arith);
+      in-map = rw (map-append (r .fresh) ws vs, length-append) (omega arith);
+    }
+
+-- what is put has room, and the room behind it is left
+PutFits : Room → List Written → Put → Type 0
+PutFits r ws (full n) = Unit {0}
+PutFits r ws (fitted r′) = (r′ ≡ roomAfter r ws) × Fits r ws
+
+put-fits : (r : Room) (ws : List Written) → PutFits r ws (putIn r ws)
+unfolding PutFits putIn
+put-fits r ws =
+    by-test (PutFits r ws) (ltb (r .bytes) (length ws)) (λ e. tt)
+    (λ e. by-test (PutFits r ws) (ltb (r .lines) (length (mapOf (r .fresh) ws))) (λ d. tt)
+    (λ d. (refl, record { in-text = ltb-false _ _ e; in-map = ltb-false _ _ d })))
+
+-- ---- a usage
+
+module _ (r : Room) where
+  deal-fits : (v : View) (wr : Expansion) (re : List ℕ → Expansion) → Fits r (wr .text) → ((w : List ℕ) → Fits r (re w .text)) →
+      Fits r (dealBy v wr re .text)
+  deal-fits blanks wr re f g = f
+  deal-fits (calls w) wr re f g = g w
+  deal-fits (names w) wr re f g = f
+  deal-fits (opens c) wr re f g = f
+  deal-fits (closes b) wr re f g = f
+  deal-fits commas wr re f g = f
+  deal-fits (bars n i) wr re f g = f
+  deal-fits plain wr re f g = f
+
+  got-fits : (go : Next) → ((q rest : List Pending) → Fits r (go q rest r .text)) → (g : Got) → Fits r (onGot go r g .text)
+  got-fits go f (refused n i) = fits-none r
+  got-fits go f (got q rest) = f q rest
+
+  puts-fits : (ws : List Written) (p : Put) → PutFits r ws p → (go : Room → Expansion) → ((r′ : Room) → Fits r′ (go r′ .text)) →
+      Fits r (puts ws r p go .text)
+  unfolding PutFits
+  puts-fits ws (full n) h go f = fits-none r
+  puts-fits ws (fitted r′) h go f =
+      fits-append r ws (go r′ .text) (h .1) (subst (λ (z : Room). Fits z (go r′ .text)) (h .0) (f r′))
+
+walk-fits : (go : Next) → ((q rest : List Pending) (r : Room) → Fits r (go q rest r .text)) → (o : Outer) (ms : List Macro) (ps : List Pending)
+    (r : Room) → Fits r (walk go o ms r ps .text)
+unfolding walk
+walk-fits go f o ms [] r = fits-none r
+walk-fits go f o ms (p ∷ ps) r =
+    let ws = placed 0 (o .place) (spells o p) in
+    deal-fits r (view p) (puts ws r (putIn r ws) (λ r′. walk go o ms r′ ps)) (λ w. onGot go r (replace ms w (p .own) ps))
+    (puts-fits r ws (putIn r ws) (put-fits r ws) (λ r′. walk go o ms r′ ps) (λ r′. walk-fits go f o ms ps r′))
+    (λ w. got-fits r go (λ q rest. f q rest r) (replace ms w (p .own) ps))
+
+onward-fits : (n : ℕ) (o : Outer) (ms : List Macro) (q rest : List Pending) (r : Room) → Fits r (onward n o ms q rest r .text)
+unfolding onward
+onward-fits zero o ms q rest r = fits-none r
+onward-fits (suc n) o ms q rest r =
+    by-test (λ (e : Expansion). Fits r (e .text)) (ltb 1024 (length (q ++ rest))) (λ e. fits-none r)
+    (λ e. walk-fits (onward n o ms) (onward-fits n o ms) o ms (q ++ rest) r)
+
+-- an expansion fits the room that it is given
+pub expand-fits : (n : ℕ) (o : Outer) (ms : List Macro) (r : Room) (w s : List ℕ) (i : ℕ) → Fits r (expand n o ms r w s i .text)
+unfolding expand
+expand-fits n o ms r w s i =
+    got-fits r (λ q rest r′. onward n o ms q [] r′) (λ q rest. onward-fits n o ms q [] r) (first ms w s i)
+
+-- ---- a turn
+
+-- what a turn writes has room, and the turn goes on with the room behind it
+TurnFits : Room → Turn → Type 0
+TurnFits r (more s m) = (s .room ≡ roomAfter r (m .text)) × Fits r (m .text)
+TurnFits r (stop n f p m) = Fits r (m .text)
+TurnFits r finished = Unit {0}
+
+module _ (h : Here) where
+  abbrev Turns : Turn → Type 0
+  Turns t = TurnFits (h .state .room) t
+
+  refuse-fits : (n p : ℕ) → Turns (refuseAt h n p)
+  unfolding TurnFits
+  refuse-fits n p = fits-none (h .state .room)
+
+  go-fits : (fs : List Frame) (cs : List Conditional) (ms : List Macro) → Turns (goTo h fs cs ms)
+  unfolding TurnFits mapOf freshAfter
+  go-fits fs cs ms = (room-same (h .state .room), fits-none (h .state .room))
+
+  put-turns : (ws : List Written) (fs : List Frame) (c : Settings) (p : Put) → PutFits (h .state .room) ws p → Turns (onPut h ws fs c p)
+  unfolding TurnFits PutFits
+  put-turns ws fs c (full n) f = fits-none (h .state .room)
+  put-turns ws fs c (fitted r) f = f
+
+  write-fits : (ws : List Written) (fs : List Frame) (c : Settings) → Turns (write h ws fs c)
+  write-fits ws fs c = put-turns ws fs c (putIn (h .state .room) ws) (put-fits (h .state .room) ws)
+
+  copy-fits : Turns (copyTurn h)
+  copy-fits = write-fits _ _ _
+
+  skip-fits : Turns (skipTurn h)
+  skip-fits = go-fits _ _ _
+
+  end-fits : Turns (endTurn h)
+  end-fits = by-test Turns (h .frame .cursor .comment) (λ e. write-fits _ _ _) (λ e. go-fits _ _ _)
+
+  form-fits : (f : Form) (g : Value → ℕ → Turn) → ((v : Value) (e : ℕ) → Turns (g v e)) → Turns (onForm h f g)
+  form-fits (Formed v e) g k = k v e
+  form-fits Unformed g k = refuse-fits _ _
+  form-fits (Barred n p) g k = refuse-fits _ _
+
+  blocks-fit : (e : ℕ) (cs : Option (List Conditional)) → Turns (onBlocks h e cs)
+  blocks-fit e none = refuse-fits _ _
+  blocks-fit e (some cs) = go-fits _ _ _
+
+  open-fits : (b : Bool) (e : ℕ) → Turns (openTurn h b e)
+  open-fits b e = blocks-fit e (openBlock (h .frame .file) (h .token .at) b (h .state .conds))
+
+  condition-fits : (d : ℕ) (v : Value) (e : ℕ) → Turns (conditionTurn d h v e)
+  condition-fits d v e =
+      by-test Turns (eqb d Elsif) (λ q. blocks-fit e (nextBlock (isDefined h v) false (h .state .conds)))
+      (λ q. open-fits (cond (eqb d Ifdef) (isDefined h v) (not (isDefined h v))) e)
+
+  conditional-fits : (d : ℕ) → Turns (conditionalTurn d h)
+  unfolding conditionalTurn
+  conditional-fits d =
+      by-test Turns (eqb d Endif) (λ q. blocks-fit (h .token .end) (closeBlock (h .state .conds)))
+      (λ q. by-test Turns (eqb d Else) (λ q′. blocks-fit (h .token .end) (nextBlock true true (h .state .conds)))
+      (λ q′. form-fits (formHere d h) (conditionTurn d h) (condition-fits d)))
+
+  define-fits : (d : Definition) → Turns (defineTurn h d)
+  define-fits (barred n p) = refuse-fits _ _
+  define-fits (bad e) = refuse-fits _ _
+  define-fits (good m e) =
+      by-test Turns (fits (h .context .records) (h .context .bytes) (define m (h .state .macros))) (λ q. go-fits _ _ _) (λ q. refuse-fits _ _)
+
+  hide-fits : (d : Definition) → Turns (hideTurn h d)
+  hide-fits (barred n p) = refuse-fits _ _
+  hide-fits (bad e) = go-fits _ _ _
+  hide-fits (good m e) = go-fits _ _ _
+
+  undef-fits : Turns (undefTurn h)
+  undef-fits = form-fits (formHere Undef h) _ (λ v e. go-fits _ _ _)
+
+  enter-fits : (l : IncludeLine) (form : ℕ) (w : List ℕ) → Turns (enterTurn h l form w)
+  enter-fits l form w =
+      let i = entryOf (h .context .store) form w (h .context .table) in
+      by-test Turns (h .frame .cursor .other || (l .other || (eqb form 1 && eqb (getD w 0 0) 47))) (λ q. refuse-fits _ _)
+      (λ q. by-test Turns (leb (length (h .context .table)) i) (λ q′. refuse-fits _ _)
+      (λ q′. by-test Turns (leb 15 (length (h .others))) (λ q″. refuse-fits _ _) (λ q″. go-fits _ _ _)))
+
+  named-fits : (l : IncludeLine) (f : FileName) → Turns (includeBy h l f)
+  named-fits l Unnamed = refuse-fits _ _
+  named-fits l (Quoted a e) = enter-fits l 0 (part (h .body) a e)
+  named-fits l (Angled a e) = enter-fits l 1 (part (h .body) a e)
+
+  include-fits : (l : IncludeLine) → Turns (includeTurn h l)
+  include-fits l = by-test Turns (eqb (l .bars .number) 0) (λ q. named-fits l (l .file)) (λ q. refuse-fits _ _)
+
+  keep-fits : (d : ℕ) → Turns (keepTurn d h)
+  keep-fits d = form-fits (formHere d h) _ (λ v e. write-fits _ _ _)
+
+  word-fits : (w : List ℕ) → Turns (wordTurn h w)
+  word-fits w = write-fits _ _ _
+
+  after-fits : (next : ℕ) (e : Expansion) → Fits (h .state .room) (e .text) → Turns (afterUsage h next e)
+  unfolding TurnFits
+  after-fits next e f = by-test Turns (eqb (e .stop) 0) (λ q. (refl, f)) (λ q. f)
+
+  usage-fits : Turns (usageTurn h)
+  usage-fits =
+      let w = nameOf (h .body) (h .token) in
+      after-fits (goesOn (h .body) (first (h .state .macros) w (h .body) (h .token .end)))
+      (expand (h .state .left) (outerOf h) (h .state .macros) (h .state .room) w (h .body) (h .token .end))
+      (expand-fits (h .state .left) (outerOf h) (h .state .macros) (h .state .room) w (h .body) (h .token .end))
+
+  taken-fits : (d : ℕ) → Turns (takenTurn d h)
+  unfolding takenTurn
+  taken-fits d =
+      by-test Turns (eqb d 0) (λ q. usage-fits)
+      (λ q. by-test Turns (eqb d Define) (λ q1. define-fits (definitionAt (h .body) (h .token .end)))
+      (λ q1. by-test Turns (eqb d Undef) (λ q2. undef-fits)
+      (λ q2. by-test Turns (eqb d UndefineAll) (λ q3. go-fits _ _ _)
+      (λ q3. by-test Turns (eqb d Include) (λ q4. include-fits (includeAt (h .body) (h .token .end)))
+      (λ q4. by-test Turns (leb Resetall d && leb d EndKeywords) (λ q5. keep-fits d)
+      (λ q5. by-test Turns (eqb d FileWord) (λ q6. word-fits _)
+      (λ q6. by-test Turns (eqb d LineWord) (λ q7. word-fits _) (λ q7. refuse-fits _ _))))))))
+
+  ignored-fits : (d : ℕ) → Turns (ignoredTurn d h)
+  ignored-fits d = by-test Turns (eqb d Define) (λ q. hide-fits (definitionAt (h .body) (h .token .end))) (λ q. skip-fits)
+
+  grave-fits : (d : ℕ) → Turns (graveTurn d h)
+  grave-fits d =
+      by-test Turns (leb Ifdef d && leb d Endif) (λ q. conditional-fits d)
+      (λ q. by-test Turns (takenBy (h .state .conds)) (λ q′. taken-fits d) (λ q′. ignored-fits d))
+
+  token-fits : Turns (tokenTurn h)
+  unfolding tokenTurn
+  token-fits =
+      let t = h .token in
+      by-test Turns (not (eqb (t .bar) 0)) (λ q. refuse-fits _ _)
+      (λ q. by-test Turns (is End t) (λ q1. end-fits)
+      (λ q1. by-test Turns (is Grave t) (λ q2. grave-fits (directiveOf (nameOf (h .body) t)))
+      (λ q2. by-test Turns (takenBy (h .state .conds)) (λ q3. copy-fits) (λ q3. skip-fits))))
+
+last-fits : (r : Room) (cs : List Conditional) → TurnFits r (lastTurn cs)
+unfolding TurnFits
+last-fits r [] = tt
+last-fits r (c ∷ cs) = fits-none r
+
+frame-fits : (x : Context) (s : State) (fs : List Frame) → TurnFits (s .room) (frameTurn x s fs)
+frame-fits x s [] = last-fits (s .room) (s .conds)
+frame-fits x s (f ∷ fs) = token-fits (hereAt x s f fs)
+
+turn-fits : (x : Context) (s : State) → TurnFits (s .room) (turnAt x s)
+unfolding turnAt
+turn-fits x s = frame-fits x s (s .frames)
+
+-- ---- a run
+
+follow-fits : (s : State) (t : Turn) (go : State → Run) → TurnFits (s .room) t → ((s′ : State) → Fits (s′ .room) (go s′ .text)) →
+    Fits (s .room) (follow s t go .text)
+unfolding TurnFits
+follow-fits s (more s′ m) go h f =
+    fits-append (s .room) (m .text) (go s′ .text) (h .1) (subst (λ (z : Room). Fits z (go s′ .text)) (h .0) (f s′))
+follow-fits s (stop n i p m) go h f = rw (append-nil (m .text)) h
+follow-fits s finished go h f = fits-none (s .room)
+
+pub run-fits : (n : ℕ) (x : Context) (s : State) → Fits (s .room) (runFor n x s .text)
+unfolding runFor
+run-fits zero x s = fits-none (s .room)
+run-fits (suc n) x s = follow-fits s (turnAt x s) (λ s′. runFor n x s′) (turn-fits x s) (λ s′. run-fits n x s′)
+
+-- ---- a hand-over
+
+flat-fits : (h : HandOver) (r : Rooms) → Fits (startOf h r .room) (runFrom (contextOf h r) (startOf h r) .text)
+unfolding runFrom
+flat-fits h r = run-fits (measure (contextOf h r) (startOf h r .frames)) (contextOf h r) (startOf h r)
+
+-- the text is not longer than its room
+pub text-fits : (h : HandOver) (r : Rooms) → length (flattened h r .text) ≤ r .text
+unfolding flattened
+text-fits h r =
+    by-test (λ (o : Outcome). length (o .text) ≤ r .text) (isSound h r) (λ e. rw text-length (flat-fits h r .in-text)) (λ e. omega arith)
+
+-- nor is the map
+pub map-fits : (h : HandOver) (r : Rooms) → length (flattened h r .map) ≤ r .map
+unfolding flattened
+map-fits h r = by-test (λ (o : Outcome). length (o .map) ≤ r .map) (isSound h r) (λ e. flat-fits h r .in-map) (λ e. omega arith)
+
+-- ---- lines
+
+written-lines : (fresh : Bool) (ws : List Written) → length (mapOf fresh ws) ≡ linesFrom fresh (textOf ws)
+unfolding mapOf textOf linesFrom
+written-lines fresh [] = refl
+written-lines true (put b p ∷ ws) = ap suc (written-lines (eqb b 10) ws)
+written-lines false (put b p ∷ ws) = written-lines (eqb b 10) ws
+
+-- the map has one number for each line of the text
+pub map-lines : (h : HandOver) (r : Rooms) → length (flattened h r .map) ≡ linesIn (flattened h r .text)
+unfolding flattened linesFrom
+map-lines h r =
+    by-test (λ (o : Outcome). length (o .map) ≡ linesIn (o .text)) (isSound h r)
+    (λ e. written-lines true (runFrom (contextOf h r) (startOf h r) .text)) (λ e. refl)

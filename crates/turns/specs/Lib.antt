@@ -1,0 +1,6 @@
+pub mod States
+pub mod Turns
+pub mod Usages
+pub mod Runs
+pub mod Lines
+pub mod Leading

@@ -1,0 +1,1 @@
+// The run over files (document 01, "Directives"), turn by turn: definitions and what holds of every run.

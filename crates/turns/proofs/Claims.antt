@@ -1,40 +1,9 @@
 -- Files flattened: document 01's bench examples, each over the bytes of a file.
 -- Assumes nothing.
-use Prim.Native.Nat.{ℕ}
-use Prim.Native.String.{String}
-use mathlib.Core.List.{List, [], _∷_, _++_}
 use mathlib.Core.Path.{_≡_, refl}
-use lib.ListN.{length}
 use Rattle.text.specs.Bytes.{bytes}
-use Rattle.handover.specs.Sizes.{HandOver, Rooms}
-use Rattle.turns.specs.Runs.{Outcome, flattened}
+use Rattle.turns.specs.Examples.{says, flat}
 use Rattle.turns.proofs.Computing.{flattening}
-
--- the refusal (0: none), its byte, the replacements, and what is written
-pub data Says : Type 0 where
-  says : ℕ → ℕ → ℕ → List ℕ → Says
-
-abbrev saysOf : Outcome → Says
-saysOf o = says (o .number) (o .byte) (o .count) (o .text)
-
--- a hand-over of one file, `top.sv`
-abbrev pub alone : List ℕ → HandOver
-alone s =
-    record {
-      store = bytes "top.sv" ++ s;
-      table = (0 ∷ 0 ∷ 6 ∷ 6 ∷ length s ∷ []) ∷ [];
-      root = 0;
-      starts = [];
-      set = 3;
-      limit = 100000;
-    }
-
--- the printing program's rooms
-abbrev lent : Rooms
-lent = record { text = 4096; map = 4096; records = 4096; bytes = 4096 }
-
-abbrev pub flat : String → Says
-flat s = saysOf (flattened (alone (bytes s)) lent)
 
 -- an ignored block does not end at a directive inside a definition
 pub hidden : flat "`ifdef X\n`define Y `endif\na\n`endif\nb\n" ≡ says 0 0 0 (bytes "\nb\n")

@@ -39,7 +39,8 @@ use Rattle.turns.specs.Turns.{copyTurn, skipTurn, endTurn, onForm, formH
 use Rattle.turns.specs.Usages.{outerOf, usageTurn, takenTurn, ignoredTurn, graveTurn, tokenTurn, lastTurn, hereAt, frameTurn, turnAt}
 use Rattle.turns.specs.Runs.{Run, follow, runFor, measure, runFrom, contextOf, startOf, Outcome, flattened}
 use Rattle.turns.proofs.Inside.{inside-on, token-inside, include-inside, form-inside, bad-inside, good-inside, usage-inside}
-use Rattle.turns.proofs.Places.{InFile, All, Placed, placed-append, placed-map, placed-one, line-in, placed-lines, expand-placed}
+use Rattle.turns.specs.Mapping.{InFile, All}
+use Rattle.turns.proofs.Places.{Placed, placed-append, placed-map, placed-one, line-in, placed-lines, expand-placed}
 
 -- a frame of a file that there is, its cursor in the file and at the line there
 pub record Reads (x : Context) (f : Frame) : Type 0 where

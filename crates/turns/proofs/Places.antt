@@ -17,19 +17,7 @@ use Rattle.replace.specs.Replacing.{Got, refused, got, replace}
 use Rattle.expand.specs.Expanding.{Outer, writes, Expansion, Next, onGot, onPut, dealBy, walk, onward, first, expand}
 use Rattle.handover.specs.Entries.{bodyOf}
 use Rattle.turns.specs.States.{Context}
-
--- a place of a line of a file
-pub record InFile (x : Context) (p : ℕ) : Type 0 where
-  pub file : ℕ
-  pub line : ℕ
-  pub place-is : p ≡ placeOf file line
-  pub file-in : file < length (x .table)
-  pub first : 1 ≤ line
-  pub last : line ≤ lineAt (bodyOf (x .store) (x .table) file) (length (bodyOf (x .store) (x .table) file))
-
-unfoldable pub All : (ℕ → Type 0) → List ℕ → Type 0
-All P [] = Unit {0}
-All P (n ∷ ns) = P n × All P ns
+use Rattle.turns.specs.Mapping.{InFile, All}
 
 -- the places of bytes written
 unfoldable pub Placed : Context → List Written → Type 0

@@ -4,3 +4,5 @@ pub mod Usages
 pub mod Runs
 pub mod Lines
 pub mod Leading
+pub mod Mapping
+pub mod Examples

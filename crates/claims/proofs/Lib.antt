@@ -1,0 +1,16 @@
+pub mod GrowingUsages
+pub mod GrowingTurns
+pub mod Growing
+pub mod RefusedTokens
+pub mod RefusedDirectives
+pub mod RefusedReplacing
+pub mod RefusedUsages
+pub mod Refused
+pub mod PiecesMacros
+pub mod PiecesSources
+pub mod PiecesExpanding
+pub mod Pieces
+pub mod PiecesTokens
+pub mod PiecesTexts
+pub mod PiecesAccents
+pub mod Whole

@@ -1,0 +1,49 @@
+-- The claim over flatten and classify.
+-- Assumes nothing.
+use mathlib.Core.List.{List}
+use Prim.Native.Nat.{ℕ}
+use Rattle.handover.specs.Sizes.{HandOver, Rooms}
+use Rattle.turns.specs.Runs.{contextOf}
+use Rattle.turns.proofs.Claims as example
+use Rattle.turns.proofs.Rooms.{text-fits, map-fits, map-lines}
+use Rattle.turns.proofs.Lines.{map-places}
+use Rattle.classify.proofs.Claims as words
+use Rattle.claims.specs.Growing.{Larger}
+use Rattle.claims.specs.Claim.{Bench, Always, Claim}
+use Rattle.claims.proofs.Growing.{larger-grows}
+use Rattle.claims.proofs.Refused.{refused-placed, refused-number, one-exactly, unsound-one}
+use Rattle.claims.proofs.Pieces.{text-from-pieces}
+use Rattle.claims.proofs.PiecesAccents.{accents-kept}
+
+pub bench : Bench
+bench =
+    record {
+      nested = example.nested;
+      defaults = example.defaults;
+      too-few = example.too-few;
+      too-many = example.too-many;
+      both-empty = example.both-empty;
+      recursive = example.recursive;
+      hidden = example.hidden;
+      reserved = words.reserved;
+      unreserved = words.unreserved;
+    }
+
+pub always : (h : HandOver) (r : Rooms) → Always h r
+always h r =
+    record {
+      text-fits = text-fits h r;
+      map-fits = map-fits h r;
+      map-lines = map-lines h r;
+      map-places = map-places h r;
+      one-exactly = one-exactly h r;
+      unsound-one = unsound-one h r;
+      refused-placed = refused-placed h r;
+      refused-number = refused-number h r;
+      larger-grows = λ r′ l e. larger-grows h r r′ l e;
+      from-pieces = text-from-pieces h r;
+      accents-kept = accents-kept (contextOf h r);
+    }
+
+pub whole : Claim
+whole = record { bench = bench; always = always }

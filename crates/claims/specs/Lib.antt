@@ -1,0 +1,4 @@
+pub mod Growing
+pub mod Refused
+pub mod Pieces
+pub mod Claim

@@ -1,0 +1,610 @@
+-- Where a step goes: behind a directive, back to the file around, into a file; and what it refuses.
+-- Assumes nothing.
+use Prim.Native.Nat.{ℕ, zero, suc, max, _+_, _-_, _<_, _≤_}
+use mathlib.Core.Bool.{Bool, true, false, _&&_, _||_}
+use mathlib.Core.List.{List, [], _∷_, append-nil}
+use mathlib.Core.Path.{_≡_, refl, sym, ap, subst, _∙_}
+use native.Mathlib.Omega.{arith}
+use lib.Dec.{eqb, leb}
+use lib.ListN.{length, getD, set, drop, length-set, length-take}
+use lib.Seq.{getD-set-same, getD-set-other}
+use borrow.Author.Tests.{eqb-true, eqb-false}
+use Rattle.text.specs.Bytes.{part}
+use Rattle.lex.specs.declared.Token.{Token}
+use Rattle.lex.specs.Tokens.{inFile, tokenAt}
+use Rattle.lex.proofs.Tests.{by-test, true-false}
+use Rattle.lex.proofs.Progress.{Inside, token-at}
+use Rattle.names.specs.Names.{Undef}
+use Rattle.directive.specs.declared.Value.{Value}
+use Rattle.directive.specs.declared.Form.{Form}
+use Rattle.directive.specs.declared.Form.the-variants as form
+use Rattle.directive.specs.declared.FileName.{FileName}
+use Rattle.directive.specs.declared.FileName.the-variants.{Unnamed, Quoted, Angled}
+use Rattle.directive.specs.declared.IncludeLine.{IncludeLine}
+use Rattle.directive.specs.Forms.{formAt}
+use Rattle.directive.specs.Include.{includeAt}
+use Rattle.definition.specs.Definitions.{Macro}
+use Rattle.store.specs.Buffers.{Holds}
+use Rattle.store.specs.Stores.{find, undefine}
+use Rattle.store.specs.declared.Found.{Found}
+use Rattle.store.specs.declared.Found.the-variants.{At as Present, Missing as Absent}
+use Rattle.store.proofs.Ordering.{undefine-length, undefine-missing}
+use Rattle.writing.specs.Written.{Written, placed, full, fitted, putIn}
+use Rattle.writing.specs.Buffers.{roomOf, Puts, WroteBy}
+use Rattle.writing.specs.declared.Spot.{Spot}
+use Rattle.writing.specs.declared.Wrote.{Wrote}
+use Rattle.writing.specs.declared.Wrote.the-variants as wrote
+use Rattle.writing.proofs.Laws.{puts-none, puts-append, puts-text, puts-map}
+use Rattle.places.specs.Places.{newlines, placeOf}
+use Rattle.places.proofs.Lines.{newlines-length}
+use Rattle.blocks.specs.Stacks.{openIn}
+use Rattle.handover.specs.Entries.{blankEntry, bodyOf, entryOf}
+use Rattle.handover.proofs.Laws.{entries-sound, entry-body}
+use Rattle.handover.proofs.Walking.{read-any}
+use Rattle.copying.specs.declared.Cursor.{Cursor}
+use Rattle.copying.specs.Cursors.{opening, cursorBehind}
+use Rattle.copying.specs.Copying.{Reads}
+use Rattle.turns.specs.States.{Context, Frame, State, Made, nothing, writes, Turn, more, stop, finished, Here, refuseAt, behind, goTo, placeHere}
+use Rattle.turns.specs.Turns.{nameIn, onForm, endTurn, undefTurn, enterTurn, includeBy, includeTurn}
+use Rattle.turns.proofs.Inside.{inside-on, token-inside, include-inside, form-inside}
+use Rattle.choosing.specs.declared.Named.{Named}
+use Rattle.choosing.specs.declared.Named.the-variants as named
+use Rattle.choosing.specs.Choosing.{NamedBy}
+use Rattle.including.specs.declared.Entered.{Entered}
+use Rattle.including.specs.declared.Entered.the-variants as entered
+use Rattle.including.specs.Including.{IncludeHere, Enters, EnteredBy}
+use Rattle.running.specs.declared.Stage.{Stage}
+use Rattle.running.specs.declared.Step.{Step}
+use Rattle.running.specs.declared.Step.the-variants as step
+use Rattle.running.specs.Standing.{Bufs, bufs, blankFrame, frameIn, outerFrames, openFrames, hereOf, endedAt, withCursor, withSpot, enteredAt, FrameOk, Ok, Fixed, At, Moves, isEnd, Stops, SteppedBy}
+use Rattle.running.proofs.Barring.{form-number, put-number}
+
+-- ---- the open files
+
+-- the innermost of at least one
+pub open-first : (w : List (List ℕ)) (d file : ℕ) (c : Cursor) → 0 < d → openFrames w d file c ≡ record { file = file; cursor = c } ∷ outerFrames w (d - 1)
+open-first w zero file c h = absurd (omega arith)
+open-first w (suc n) file c h =
+    let e : suc n - 1 ≡ n = omega arith in
+    rw e
+
+pub outer-length : (w : List (List ℕ)) (n : ℕ) → length (outerFrames w n) ≡ n
+unfolding outerFrames
+outer-length w zero = refl
+outer-length w (suc n) = ap suc (outer-length w n)
+
+-- a store behind the first n changes none of them
+outer-set : (w : List (List ℕ)) (n i : ℕ) (v : List ℕ) → n ≤ i → outerFrames (set w i v) n ≡ outerFrames w n
+unfolding outerFrames
+outer-set w zero i v h = refl
+outer-set w (suc n) i v h =
+    let e : getD (set w i v) n blankFrame ≡ getD w n blankFrame = getD-set-other w i n v blankFrame (λ z. omega arith) in
+    let r : outerFrames (set w i v) n ≡ outerFrames w n = outer-set w n i v (omega arith) in
+    rw (e, r)
+
+-- a store at d - 1 makes the innermost of d
+outer-put : (w : List (List ℕ)) (d : ℕ) (v : List ℕ) → 0 < d → d ≤ length w → outerFrames (set w (d - 1) v) d ≡ frameIn v ∷ outerFrames w (d - 1)
+unfolding outerFrames
+outer-put w zero v h l = absurd (omega arith)
+outer-put w (suc n) v h l =
+    let e : suc n - 1 ≡ n = omega arith in
+    rw (e, getD-set-same w n v blankFrame (omega arith), outer-set w n n v (omega arith))
+
+outer-none : (w : List (List ℕ)) (n file : ℕ) (c : Cursor) → n ≡ 0 → openFrames w n file c ≡ outerFrames w n
+unfolding outerFrames
+outer-none w n file c e = rw e
+
+-- the innermost of n is read at n - 1
+outer-top : (w : List (List ℕ)) (n : ℕ) (v : List ℕ) → 0 < n → n ≤ length w → v ≡ getD w (n - 1) [] → openFrames w n (frameIn v .file) (frameIn v .cursor) ≡ outerFrames w n
+unfolding outerFrames
+outer-top w zero v h l e = absurd (omega arith)
+outer-top w (suc n) v h l e =
+    let k : suc n - 1 ≡ n = omega arith in
+    let q : v ≡ getD w n blankFrame = e ∙ rw k (read-any w n [] blankFrame (omega arith)) in
+    rw q
+
+-- ---- a step in general
+
+-- a stage at another place, with so many macros
+abbrev pub placedAt : Stage → ℕ → ℕ → Cursor → ℕ → Stage
+placedAt z d f c n =
+    record {
+      depth = d;
+      file = f;
+      cursor = c;
+      blocks = z .blocks;
+      macros = n;
+      settings = z .settings;
+      spot = z .spot;
+      count = z .count;
+      deepest = z .deepest;
+    }
+
+-- a turn that writes nothing
+pub goes : (x : Context) (limit : ℕ) (tx mp bs bs′ : List ℕ) (rs rs′ fr fr′ cd : List (List ℕ)) (ms ms′ : List Macro) (z : Stage) (d f : ℕ) (c : Cursor) (n : ℕ)
+    (gs : List Frame) (u : Turn)
+    → u ≡ goTo (hereOf x limit (bufs tx mp bs rs fr cd) ms z) gs (openIn cd (z .blocks .open)) ms′
+    → openFrames fr′ d f c ≡ gs → Holds ms′ bs′ rs′ n
+    → Moves limit (bufs tx mp bs rs fr cd) (bufs tx mp bs′ rs′ fr′ cd) z (placedAt z d f c n) u
+goes x limit tx mp bs bs′ rs rs′ fr fr′ cd ms ms′ z d f c n gs u e q h =
+    record {
+      macros = ms′;
+      made = nothing;
+      turn-is = e ∙ ap (λ (gs : List Frame). goTo (hereOf x limit (bufs tx mp bs rs fr cd) ms z) gs (openIn cd (z .blocks .open)) ms′) (sym q);
+      holds = h;
+      puts = puts-none tx mp (z .spot);
+      count-is = omega arith;
+      deepest-is = omega arith;
+    }
+
+pub ok-at : {fs : List ℕ} {es : List (List ℕ)} (tx mp bs bs′ : List ℕ) (rs rs′ fr fr′ cd : List (List ℕ)) (z : Stage) (d f : ℕ) (c : Cursor) (n : ℕ)
+    → Ok fs es (bufs tx mp bs rs fr cd) z → d ≤ 16 → f < length es → Reads (bodyOf fs es f) (placeOf f 0) c
+    → ((k : ℕ) → suc k < d → FrameOk fs es (getD fr′ k blankFrame)) → 16 ≤ length fr′ → n ≤ 256
+    → Ok fs es (bufs tx mp bs′ rs′ fr′ cd) (placedAt z d f c n)
+ok-at tx mp bs bs′ rs rs′ fr fr′ cd z d f c n o a b r k l m =
+    record {
+      few-files = a;
+      file-in = b;
+      copyable = record { reads = r; in-text = o .copyable .in-text; in-map = o .copyable .in-map };
+      outer = k;
+      frames-lent = l;
+      blocks-are = o .blocks-are;
+      few-macros = m;
+    }
+
+-- a refusal of a number that is not 0, with nothing written
+pub stops : (B B′ : Bufs) (ms : List Macro) (z : Stage) (n p : ℕ) (u : Turn) → (n ≡ 0 → ⊥) → u ≡ stop n (z .file) p nothing
+    → B′ .text ≡ B .text → B′ .map ≡ B .map → Holds ms (B′ .bytes) (B′ .records) (z .macros) → Stops B B′ ms z z n (z .file) p u
+stops B B′ ms z zero p u a e t m h = absurd (a refl)
+stops B B′ ms z (suc n) p u a e t m h =
+    record {
+      made = nothing;
+      turn-is = e;
+      holds = h;
+      settings-same = refl;
+      puts = rw (t, m) (puts-none (B .text) (B .map) (z .spot));
+      count-is = omega arith;
+      deepest-is = omega arith;
+    }
+
+pub refuses : (fs : List ℕ) (es : List (List ℕ)) (limit : ℕ) (B : Bufs) (ms : List Macro) (z : Stage) (r : Step) (n p : ℕ) (u : Turn) → r ≡ endedAt z n (z .file) p
+    → (n ≡ 0 → ⊥) → u ≡ stop n (z .file) p nothing → Holds ms (B .bytes) (B .records) (z .macros) → SteppedBy r fs es limit B B ms z u
+refuses fs es limit B ms z r n p u q a e h = rw q (stops B B ms z n p u a e refl refl h)
+
+-- ---- behind a directive
+
+pub reads-behind : (s : List ℕ) (base : ℕ) (c : Cursor) (e : ℕ) → Reads s base c → Inside s (c .at) e → Reads s base (cursorBehind s e c)
+unfolding cursorBehind
+reads-behind s base c e r h =
+    let k : newlines (part s (c .at) e) ≤ length (part s (c .at) e) = newlines-length (part s (c .at) e) in
+    let l = length-take (e - c .at) (drop (c .at) s) in
+    record { small = r .small; place-small = r .place-small; inside = h .within; line-small = omega (arith, r .line-small, h .past) }
+
+module _ {fs : List ℕ} {es : List (List ℕ)} {B : Bufs} {z : Stage} {s : List ℕ} {t : Token} (a : At fs es s t z) (o : Ok fs es B z) where
+  pub reads-here : Reads s (placeOf (z .file) 0) (z .cursor)
+  reads-here = subst (λ (b : List ℕ). Reads b (placeOf (z .file) 0) (z .cursor)) (a .body-is) (o .copyable .reads)
+
+  pub token-here : Inside s (z .cursor .at) (t .end)
+  token-here = subst (λ (t : Token). Inside s (z .cursor .at) (t .end)) (a .token-is) (token-inside inFile s (z .cursor .at) (reads-here .inside))
+
+  pub reads-there : (e : ℕ) → Inside s (t .end) e → Reads (bodyOf fs es (z .file)) (placeOf (z .file) 0) (cursorBehind s e (z .cursor))
+  reads-there e h =
+      subst (λ (b : List ℕ). Reads b (placeOf (z .file) 0) (cursorBehind s e (z .cursor))) (sym (a .body-is))
+      (reads-behind s (placeOf (z .file) 0) (z .cursor) e reads-here (inside-on token-here h))
+
+-- the file and the token here
+module _ {x : Context} {fs : List ℕ} {es : List (List ℕ)} {kind : ℕ} {B : Bufs} {z : Stage} {s : List ℕ} {t : Token} (f : Fixed x fs es kind B) (a : At fs es s t z) where
+  pub body-here : bodyOf (x .store) (x .table) (z .file) ≡ s
+  body-here = rw (f .store-is, f .table-is) (a .body-is)
+
+  pub token-at-here : tokenAt inFile (bodyOf (x .store) (x .table) (z .file)) (z .cursor .at) ≡ t
+  token-at-here = rw body-here (a .token-is)
+
+module _ (x : Context) (fs : List ℕ) (es : List (List ℕ)) (kind limit : ℕ) (tx mp bs bs′ : List ℕ) (rs rs′ fr cd : List (List ℕ)) (ms ms′ : List Macro) (z : Stage)
+    (s : List ℕ) (t : Token) (e n : ℕ) (u : Turn) where
+  -- the turn goes behind a directive that ends at e, to other macros
+  pub goes-behind : Fixed x fs es kind (bufs tx mp bs rs fr cd) → At fs es s t z → Ok fs es (bufs tx mp bs rs fr cd) z → Inside s (t .end) e
+      → u ≡ goTo (hereOf x limit (bufs tx mp bs rs fr cd) ms z) (behind (hereOf x limit (bufs tx mp bs rs fr cd) ms z) e) (openIn cd (z .blocks .open)) ms′
+      → Holds ms′ bs′ rs′ n → n ≤ 256
+      → Moves limit (bufs tx mp bs rs fr cd) (bufs tx mp bs′ rs′ fr cd) z (placedAt z (z .depth) (z .file) (cursorBehind s e (z .cursor)) n) u
+      × Ok fs es (bufs tx mp bs′ rs′ fr cd) (placedAt z (z .depth) (z .file) (cursorBehind s e (z .cursor)) n)
+  goes-behind f a o i q h l = (
+    goes x limit tx mp bs bs′ rs rs′ fr fr cd ms ms′ z (z .depth) (z .file) (cursorBehind s e (z .cursor)) n _ u q
+        (open-first fr (z .depth) (z .file) (cursorBehind s e (z .cursor)) (a .open-file)
+        ∙ ap (λ (b : List ℕ). record { file = z .file; cursor = cursorBehind b e (z .cursor) } ∷ outerFrames fr (z .depth - 1)) (sym (body-here f a)))
+        h,
+    ok-at tx mp bs bs′ rs rs′ fr fr cd z (z .depth) (z .file) (cursorBehind s e (z .cursor)) n o (o .few-files) (o .file-in) (reads-there a o e i)
+        (o .outer) (o .frames-lent) l,
+  )
+
+-- ---- `undefineall`
+
+pub undef-all-on : (s : List ℕ) (t : Token) (bs bs′ : List ℕ) (rs rs′ : List (List ℕ)) (z y : Stage)
+    → y ≡ withCursor z (cursorBehind s (t .end) (z .cursor)) → Holds [] bs′ rs′ 0
+    → (x : Context) (ms : List Macro) (fs : List ℕ) (es : List (List ℕ)) (kind limit : ℕ) (tx mp : List ℕ) (fr cd : List (List ℕ))
+    → Fixed x fs es kind (bufs tx mp bs rs fr cd) → At fs es s t z → Ok fs es (bufs tx mp bs rs fr cd) z → Holds ms bs rs (z .macros)
+    → SteppedBy (step.On (placedAt y (y .depth) (y .file) (y .cursor) 0)) fs es limit (bufs tx mp bs rs fr cd) (bufs tx mp bs′ rs′ fr cd) ms z
+    (goTo (hereOf x limit (bufs tx mp bs rs fr cd) ms z) (behind (hereOf x limit (bufs tx mp bs rs fr cd) ms z) (t .end)) (openIn cd (z .blocks .open)) [])
+undef-all-on s t bs bs′ rs rs′ z y q h x ms fs es kind limit tx mp fr cd f a o k =
+    rw q
+    (goes-behind x fs es kind limit tx mp bs bs′ rs rs′ fr cd ms [] z s t (t .end) 0 _ f a o
+    (record { past = omega arith; within = token-here a o .within }) refl h (omega arith))
+
+-- ---- `undef`
+
+-- no more macros than before
+undefine-few : (w : List ℕ) (ms : List Macro) → length (undefine w ms) ≤ length ms
+undefine-few w ms = go (find w ms) refl
+  where
+    go : (r : Found) → find w ms ≡ r → length (undefine w ms) ≤ length ms
+    go (Present i) e = omega (arith, undefine-length w ms e)
+    go (Absent i) e = omega (arith, ap length (undefine-missing w ms e))
+
+-- the form whose name is read
+record NameRead (g : Form) (s : List ℕ) (a b e : ℕ) : Type 0 where
+  value : Value
+  form-is : g ≡ form.Formed value e
+  name-is : nameIn value s ≡ part s a b
+
+name-read : (g : Form) (s : List ℕ) (at a b e : ℕ) → NamedBy (named.Name a b e) g s at → NameRead g s a b e
+name-read (form.Formed v i) s at a b e h = record { value = v; form-is = ap (form.Formed v) (h .1); name-is = h .0 }
+name-read form.Unformed s at a b e h = absurd h
+name-read (form.Barred n p) s at a b e h = absurd h
+
+pub undef-on : (s : List ℕ) (t : Token) (bs bs′ : List ℕ) (rs rs′ : List (List ℕ)) (z y : Stage) (g : Named) (a b e n : ℕ) (w : List ℕ)
+    → NamedBy g (formAt Undef s (t .end)) s (t .at) → g ≡ named.Name a b e → w ≡ part s a b
+    → y ≡ withCursor z (cursorBehind s e (z .cursor))
+    → ((ms : List Macro) → Holds ms bs rs (z .macros) → Holds (undefine w ms) bs′ rs′ n)
+    → (x : Context) (ms : List Macro) (fs : List ℕ) (es : List (List ℕ)) (kind limit : ℕ) (tx mp : List ℕ) (fr cd : List (List ℕ))
+    → Fixed x fs es kind (bufs tx mp bs rs fr cd) → At fs es s t z → Ok fs es (bufs tx mp bs rs fr cd) z → Holds ms bs rs (z .macros)
+    → SteppedBy (step.On (placedAt y (y .depth) (y .file) (y .cursor) n)) fs es limit (bufs tx mp bs rs fr cd) (bufs tx mp bs′ rs′ fr cd) ms z
+    (undefTurn (hereOf x limit (bufs tx mp bs rs fr cd) ms z))
+undef-on s t bs bs′ rs rs′ z y g a b e n w p q v c k x ms fs es kind limit tx mp fr cd f at o h =
+    let r : NameRead (formAt Undef s (t .end)) s a b e = name-read (formAt Undef s (t .end)) s (t .at) a b e (subst (λ (g : Named). NamedBy g (formAt Undef s (t .end)) s (t .at)) q p) in
+    let i : Inside s (t .end) e = form-inside s (t .end) (token-here at o .within) Undef (r .value) e (r .form-is) in
+    let m : Holds (undefine w ms) bs′ rs′ n = k ms h in
+    let few : n ≤ 256 = omega (arith, m .count, undefine-few w ms, h .count, o .few-macros) in
+    let H = hereOf x limit (bufs tx mp bs rs fr cd) ms z in
+    let turn : undefTurn H ≡ goTo H (behind H e) (openIn cd (z .blocks .open)) (undefine w ms) = rw (token-at-here f at, body-here f at, r .form-is, r .name-is, ← v) in
+    rw c (goes-behind x fs es kind limit tx mp bs bs′ rs rs′ fr cd ms (undefine w ms) z s t e n (undefTurn H) f at o i turn m few)
+
+-- 7, or 2 to 6
+record NameRefused (h : Here) (g : Form) (k : Value → ℕ → Turn) (n p : ℕ) : Type 0 where
+  numbered : n ≡ 0 → ⊥
+  turn-is : onForm h g k ≡ refuseAt h n p
+
+name-refused : (h : Here) (g : Form) (k : Value → ℕ → Turn) (s : List ℕ) (n p : ℕ) → ((m i : ℕ) → g ≡ form.Barred m i → 0 < m)
+    → NamedBy (named.Refused n p) g s (h .token .at) → NameRefused h g k n p
+name-refused h (form.Formed v i) k s n p b q = absurd q
+name-refused h form.Unformed k s n p b q = record { numbered = λ z. omega (arith, q .0); turn-is = rw (q .0, q .1) }
+name-refused h (form.Barred m i) k s n p b q = record { numbered = λ z. omega (arith, b m i refl, q .0); turn-is = rw (q .0, q .1) }
+
+pub undef-refused : (s : List ℕ) (t : Token) (bs : List ℕ) (rs : List (List ℕ)) (z : Stage) (g : Named) (n p : ℕ) (r : Step)
+    → NamedBy g (formAt Undef s (t .end)) s (t .at) → g ≡ named.Refused n p → r ≡ endedAt z n (z .file) p
+    → (x : Context) (ms : List Macro) (fs : List ℕ) (es : List (List ℕ)) (kind limit : ℕ) (tx mp : List ℕ) (fr cd : List (List ℕ))
+    → Fixed x fs es kind (bufs tx mp bs rs fr cd) → At fs es s t z → Ok fs es (bufs tx mp bs rs fr cd) z → Holds ms bs rs (z .macros)
+    → SteppedBy r fs es limit (bufs tx mp bs rs fr cd) (bufs tx mp bs rs fr cd) ms z (undefTurn (hereOf x limit (bufs tx mp bs rs fr cd) ms z))
+undef-refused s t bs rs z g n p r e q c x ms fs es kind limit tx mp fr cd f at o h =
+    let H = hereOf x limit (bufs tx mp bs rs fr cd) ms z in
+    let b = H .body in
+    let named : NamedBy (named.Refused n p) (formAt Undef b (H .token .end)) b (H .token .at) =
+    rw (token-at-here f at, body-here f at) (subst (λ (g : Named). NamedBy g (formAt Undef s (t .end)) s (t .at)) q e) in
+    let y = name-refused H (formAt Undef b (H .token .end)) _ b n p (form-number b Undef (H .token .end)) named in
+    refuses fs es limit (bufs tx mp bs rs fr cd) ms z r n p (undefTurn H) c (y .numbered) (y .turn-is) h
+
+-- ---- back to the file around
+
+-- a frame's cursor reads its file
+frame-reads : {x : Context} {fs : List ℕ} {es : List (List ℕ)} {kind : ℕ} {B : Bufs} (v : List ℕ) → Fixed x fs es kind B → FrameOk fs es v
+    → Reads (bodyOf fs es (getD v 0 0)) (placeOf (getD v 0 0) 0) (frameIn v .cursor)
+frame-reads {fs = fs} {es = es} v f k =
+    record {
+      small = entry-body fs (getD es (getD v 0 0) blankEntry) (entries-sound fs es (getD v 0 0) (f .entries) (k .file-in));
+      place-small = omega (arith, k .file-in, f .few-entries);
+      inside = k .inside;
+      line-small = k .line-small;
+    }
+
+-- to none
+pub leave-last : (fr : List (List ℕ)) (z : Stage) (n : ℕ) → n ≡ z .depth - 1 → n ≡ 0
+    → (x : Context) (ms : List Macro) (fs : List ℕ) (es : List (List ℕ)) (kind limit : ℕ) (tx mp bs : List ℕ) (rs cd : List (List ℕ))
+    → Fixed x fs es kind (bufs tx mp bs rs fr cd) → 0 < z .depth → Ok fs es (bufs tx mp bs rs fr cd) z → Holds ms bs rs (z .macros)
+    → SteppedBy (step.On (placedAt z n (z .file) (z .cursor) (z .macros))) fs es limit (bufs tx mp bs rs fr cd) (bufs tx mp bs rs fr cd) ms z
+    (goTo (hereOf x limit (bufs tx mp bs rs fr cd) ms z) (outerFrames fr (z .depth - 1)) (openIn cd (z .blocks .open)) ms)
+leave-last fr z n e q x ms fs es kind limit tx mp bs rs cd f d o h =
+    let a : z .depth ≤ 16 = o .few-files in (
+      goes x limit tx mp bs bs rs rs fr fr cd ms ms z n (z .file) (z .cursor) (z .macros) _ _ refl (outer-none fr n (z .file) (z .cursor) q ∙ ap (outerFrames fr) e) h,
+      ok-at tx mp bs bs rs rs fr fr cd z n (z .file) (z .cursor) (z .macros) o (omega arith) (o .file-in) (o .copyable .reads) (λ k l. absurd (omega arith)) (o .frames-lent) (o .few-macros),
+    )
+
+-- to the innermost frame
+pub leave-outer : (fr : List (List ℕ)) (z : Stage) (n : ℕ) (v : List ℕ) → n ≡ z .depth - 1 → (n ≡ 0 → ⊥) → v ≡ getD fr (n - 1) []
+    → (x : Context) (ms : List Macro) (fs : List ℕ) (es : List (List ℕ)) (kind limit : ℕ) (tx mp bs : List ℕ) (rs cd : List (List ℕ))
+    → Fixed x fs es kind (bufs tx mp bs rs fr cd) → 0 < z .depth → Ok fs es (bufs tx mp bs rs fr cd) z → Holds ms bs rs (z .macros)
+    → SteppedBy (step.On (placedAt z n (frameIn v .file) (frameIn v .cursor) (z .macros))) fs es limit (bufs tx mp bs rs fr cd) (bufs tx mp bs rs fr cd) ms z
+    (goTo (hereOf x limit (bufs tx mp bs rs fr cd) ms z) (outerFrames fr (z .depth - 1)) (openIn cd (z .blocks .open)) ms)
+leave-outer fr z n v e q w x ms fs es kind limit tx mp bs rs cd f d o h =
+    let a : z .depth ≤ 16 = o .few-files in
+    let l : 16 ≤ length fr = o .frames-lent in
+    let p : 0 < n = omega (arith, q) in
+    let r : v ≡ getD fr (n - 1) blankFrame = w ∙ read-any fr (n - 1) [] blankFrame (omega arith) in
+    let k : FrameOk fs es v = subst (λ (v : List ℕ). FrameOk fs es v) (sym r) (o .outer (n - 1) (omega arith)) in (
+      goes x limit tx mp bs bs rs rs fr fr cd ms ms z n (frameIn v .file) (frameIn v .cursor) (z .macros) _ _ refl
+          (outer-top fr n v p (omega arith) w ∙ ap (outerFrames fr) e) h,
+      ok-at tx mp bs bs rs rs fr fr cd z n (frameIn v .file) (frameIn v .cursor) (z .macros) o (omega arith) (k .file-in) (frame-reads v f k)
+          (λ j m. o .outer j (omega arith)) l (o .few-macros),
+    )
+
+-- ---- the end of a file
+
+end-goes : (h : Here) → h .frame .cursor .comment ≡ false → endTurn h ≡ goTo h (h .others) (h .state .conds) (h .state .macros)
+end-goes h e = rw e
+
+pub end-plain : (fr : List (List ℕ)) (z : Stage) (r : Step) (text map : List ℕ) → z .cursor .comment ≡ false
+    → ((x : Context) (ms : List Macro) (fs : List ℕ) (es : List (List ℕ)) (kind limit : ℕ) (tx mp bs : List ℕ) (rs cd : List (List ℕ))
+    → Fixed x fs es kind (bufs tx mp bs rs fr cd) → 0 < z .depth → Ok fs es (bufs tx mp bs rs fr cd) z → Holds ms bs rs (z .macros)
+    → SteppedBy r fs es limit (bufs tx mp bs rs fr cd) (bufs tx mp bs rs fr cd) ms z
+    (goTo (hereOf x limit (bufs tx mp bs rs fr cd) ms z) (outerFrames fr (z .depth - 1)) (openIn cd (z .blocks .open)) ms))
+    → (x : Context) (ms : List Macro) (fs : List ℕ) (es : List (List ℕ)) (kind limit : ℕ) (bs : List ℕ) (rs cd : List (List ℕ))
+    → Fixed x fs es kind (bufs text map bs rs fr cd) → 0 < z .depth → Ok fs es (bufs text map bs rs fr cd) z → Holds ms bs rs (z .macros)
+    → SteppedBy r fs es limit (bufs text map bs rs fr cd) (bufs text map bs rs fr cd) ms z (endTurn (hereOf x limit (bufs text map bs rs fr cd) ms z))
+end-plain fr z r text map e k x ms fs es kind limit bs rs cd f d o h =
+    subst (λ (u : Turn). SteppedBy r fs es limit (bufs text map bs rs fr cd) (bufs text map bs rs fr cd) ms z u)
+    (sym (end-goes (hereOf x limit (bufs text map bs rs fr cd) ms z) e)) (k x ms fs es kind limit text map bs rs cd f d o h)
+
+-- what a turn made
+made-of : Turn → Made
+made-of (more s m) = m
+made-of (stop n f p m) = m
+made-of finished = nothing
+
+isMore : Turn → Bool
+isMore (more s m) = true
+isMore (stop n f p m) = false
+isMore finished = false
+
+end-more : (n f p : ℕ) (m : Made) → isMore (isEnd n f p m) ≡ false
+unfolding isMore
+end-more zero f p m = refl
+end-more (suc n) f p m = refl
+
+state-of : State → Turn → State
+state-of d (more s m) = s
+state-of d (stop n f p m) = d
+state-of d finished = d
+
+-- what was written first, and a step behind it that writes nothing
+pub after-put : (fs : List ℕ) (es : List (List ℕ)) (limit : ℕ) (tx tx′ mp mp′ bs : List ℕ) (rs fr cd : List (List ℕ)) (ms : List Macro) (z : Stage) (y : Spot) (ws : List Written) (st : State) (u : Turn) (r : Step)
+    → Puts ws tx tx′ mp mp′ (z .spot) y → u ≡ more st (writes ws)
+    → SteppedBy r fs es limit (bufs tx′ mp′ bs rs fr cd) (bufs tx′ mp′ bs rs fr cd) ms (withSpot z y) (more st nothing)
+    → SteppedBy r fs es limit (bufs tx mp bs rs fr cd) (bufs tx′ mp′ bs rs fr cd) ms z u
+unfolding made-of state-of isMore
+after-put fs es limit tx tx′ mp mp′ bs rs fr cd ms z y ws st u (step.On z′) w e (m, o) =
+    let g : nothing ≡ m .made = ap made-of (m .turn-is) in
+    let p : Puts [] tx′ tx′ mp′ mp′ y (z′ .spot) = subst (λ (a : Made). Puts (a .text) tx′ tx′ mp′ mp′ y (z′ .spot)) (sym g) (m .puts) in
+    let c : z′ .count ≡ z .count + 0 = subst (λ (a : Made). z′ .count ≡ z .count + a .count) (sym g) (m .count-is) in
+    let d : z′ .deepest ≡ max (z .deepest) 0 = subst (λ (a : Made). z′ .deepest ≡ max (z .deepest) (a .depth)) (sym g) (m .deepest-is) in (
+      record {
+        macros = m .macros;
+        made = writes ws;
+        turn-is = e ∙ ap (λ (s : State). more s (writes ws)) (ap (state-of st) (m .turn-is));
+        holds = m .holds;
+        puts = subst (λ (v : List Written). Puts v tx tx′ mp mp′ (z .spot) (z′ .spot)) (append-nil ws) (puts-append w p);
+        count-is = c;
+        deepest-is = d;
+      },
+      o,
+    )
+after-put fs es limit tx tx′ mp mp′ bs rs fr cd ms z y ws st u (step.Ended z′ n f p) w e m =
+    let g : true ≡ false = ap isMore (m .turn-is) ∙ end-more n f p (m .made) in
+    true-false true refl g
+
+-- the state with the file left and a newline written
+abbrev stateAt : Here → Spot → ℕ → ℕ → State
+stateAt h v text map =
+    record {
+      frames = h .others;
+      conds = h .state .conds;
+      macros = h .state .macros;
+      settings = h .state .settings;
+      room = roomOf text map v;
+      left = h .state .left;
+    }
+
+end-turn : (h : Here) (v : Spot) (text map text′ map′ : ℕ) → h .frame .cursor .comment ≡ true → text ≡ text′ → map ≡ map′
+    → putIn (h .state .room) (placed 1 (placeHere h) (10 ∷ [])) ≡ fitted (roomOf text map v)
+    → endTurn h ≡ more (stateAt h v text′ map′) (writes (placed 1 (placeHere h) (10 ∷ [])))
+end-turn h v text map text′ map′ e p q b = rw (e, b, p, q)
+
+pub end-written : (fr : List (List ℕ)) (z y : Stage) (v : Spot) (g : Wrote) (r : Step) (text text′ map map′ : List ℕ) (place : ℕ) → z .cursor .comment ≡ true
+    → place ≡ placeOf (z .file) (z .cursor .line) → WroteBy g (placed 1 place (10 ∷ [])) text text′ map map′ (z .spot) → g ≡ wrote.Upto v → y ≡ withSpot z v
+    → ((x : Context) (ms : List Macro) (fs : List ℕ) (es : List (List ℕ)) (kind limit : ℕ) (tx mp bs : List ℕ) (rs cd : List (List ℕ))
+    → Fixed x fs es kind (bufs tx mp bs rs fr cd) → 0 < y .depth → Ok fs es (bufs tx mp bs rs fr cd) y → Holds ms bs rs (y .macros)
+    → SteppedBy r fs es limit (bufs tx mp bs rs fr cd) (bufs tx mp bs rs fr cd) ms y
+    (goTo (hereOf x limit (bufs tx mp bs rs fr cd) ms y) (outerFrames fr (y .depth - 1)) (openIn cd (y .blocks .open)) ms))
+    → (x : Context) (ms : List Macro) (fs : List ℕ) (es : List (List ℕ)) (kind limit : ℕ) (bs : List ℕ) (rs cd : List (List ℕ))
+    → Fixed x fs es kind (bufs text map bs rs fr cd) → 0 < z .depth → Ok fs es (bufs text map bs rs fr cd) z → Holds ms bs rs (z .macros)
+    → SteppedBy r fs es limit (bufs text map bs rs fr cd) (bufs text′ map′ bs rs fr cd) ms z (endTurn (hereOf x limit (bufs text map bs rs fr cd) ms z))
+end-written fr z y v g r text text′ map map′ place e p w q t k x ms fs es kind limit bs rs cd f d o h =
+    let ws = placed 1 (placeOf (z .file) (z .cursor .line)) (10 ∷ []) in
+    let H = hereOf x limit (bufs text map bs rs fr cd) ms z in
+    let w₁ : WroteBy g ws text text′ map map′ (z .spot) = subst (λ (p : ℕ). WroteBy g (placed 1 p (10 ∷ [])) text text′ map map′ (z .spot)) p w in
+    let w₂ : WroteBy (wrote.Upto v) ws text text′ map map′ (z .spot) = subst (λ (g : Wrote). WroteBy g ws text text′ map map′ (z .spot)) q w₁ in
+    let a : Puts ws text text′ map map′ (z .spot) v = w₂ .0 in
+    let b : putIn (roomOf (length text) (length map) (z .spot)) ws ≡ fitted (roomOf (length text) (length map) v) = w₂ .1 in
+    let lt : length text′ ≡ length text = puts-text a in
+    let lm : length map′ ≡ length map = puts-map a in
+    let o′ : Ok fs es (bufs text′ map′ bs rs fr cd) (withSpot z v) = record {
+      few-files = o .few-files;
+      file-in = o .file-in;
+      copyable = record { reads = o .copyable .reads; in-text = omega (arith, w₂ .2); in-map = omega (arith, w₂ .3) };
+      outer = o .outer;
+      frames-lent = o .frames-lent;
+      blocks-are = o .blocks-are;
+      few-macros = o .few-macros;
+    } in
+    let f′ : Fixed x fs es kind (bufs text′ map′ bs rs fr cd) = record {
+      store-is = f .store-is;
+      table-is = f .table-is;
+      set-is = f .set-is;
+      records-are = f .records-are;
+      bytes-are = f .bytes-are;
+      entries = f .entries;
+      few-entries = f .few-entries;
+      bytes-small = f .bytes-small;
+    } in
+    let k′ = subst (λ (y : Stage). (x : Context) (ms : List Macro) (fs : List ℕ) (es : List (List ℕ)) (kind limit : ℕ) (tx mp bs : List ℕ) (rs cd : List (List ℕ))
+    → Fixed x fs es kind (bufs tx mp bs rs fr cd) → 0 < y .depth → Ok fs es (bufs tx mp bs rs fr cd) y → Holds ms bs rs (y .macros)
+    → SteppedBy r fs es limit (bufs tx mp bs rs fr cd) (bufs tx mp bs rs fr cd) ms y
+    (goTo (hereOf x limit (bufs tx mp bs rs fr cd) ms y) (outerFrames fr (y .depth - 1)) (openIn cd (y .blocks .open)) ms)) t k in
+    after-put fs es limit text text′ map map′ bs rs fr cd ms z v ws (stateAt H v (length text′) (length map′)) (endTurn H) r a
+    (end-turn H v (length text) (length map) (length text′) (length map′) e (sym lt) (sym lm) b)
+    (k′ x ms fs es kind limit text′ map′ bs rs cd f′ d o′ h)
+
+-- 19 or 20
+pub end-full : (fr : List (List ℕ)) (z : Stage) (n : ℕ) (g : Wrote) (r : Step) (text text′ map map′ : List ℕ) (place : ℕ) → z .cursor .comment ≡ true
+    → place ≡ placeOf (z .file) (z .cursor .line) → WroteBy g (placed 1 place (10 ∷ [])) text text′ map map′ (z .spot) → g ≡ wrote.Full n
+    → r ≡ endedAt z n (z .file) (z .cursor .at)
+    → (x : Context) (ms : List Macro) (fs : List ℕ) (es : List (List ℕ)) (kind limit : ℕ) (bs : List ℕ) (rs cd : List (List ℕ))
+    → Fixed x fs es kind (bufs text map bs rs fr cd) → 0 < z .depth → Ok fs es (bufs text map bs rs fr cd) z → Holds ms bs rs (z .macros)
+    → SteppedBy r fs es limit (bufs text map bs rs fr cd) (bufs text′ map′ bs rs fr cd) ms z (endTurn (hereOf x limit (bufs text map bs rs fr cd) ms z))
+end-full fr z n g r text text′ map map′ place e p w q t x ms fs es kind limit bs rs cd f d o h =
+    let ws = placed 1 (placeOf (z .file) (z .cursor .line)) (10 ∷ []) in
+    let H = hereOf x limit (bufs text map bs rs fr cd) ms z in
+    let w₁ : WroteBy g ws text text′ map map′ (z .spot) = subst (λ (p : ℕ). WroteBy g (placed 1 p (10 ∷ [])) text text′ map map′ (z .spot)) p w in
+    let w₂ : WroteBy (wrote.Full n) ws text text′ map map′ (z .spot) = subst (λ (g : Wrote). WroteBy g ws text text′ map map′ (z .spot)) q w₁ in
+    let b : putIn (roomOf (length text) (length map) (z .spot)) ws ≡ full n = w₂ .0 in
+    let u : endTurn H ≡ stop n (z .file) (z .cursor .at) nothing = rw (e, b, token-at inFile (H .body) (z .cursor .at)) in
+    let l : 0 < n = put-number (roomOf (length text) (length map) (z .spot)) ws n b in
+    rw (w₂ .1, w₂ .2) (refuses fs es limit (bufs text map bs rs fr cd) ms z r n (z .cursor .at) (endTurn H) t (λ i. omega arith) u h)
+
+-- ---- into a file
+
+-- a refusal has a number; the file around goes on at i or later
+FramesIn : List ℕ → ℕ → List Frame → Type 0
+FramesIn s i [] = Unit {0}
+FramesIn s i (f ∷ []) = Unit {0}
+FramesIn s i (f ∷ g ∷ fs) = Inside s i (g .cursor .at)
+
+TurnIn : List ℕ → ℕ → Turn → Type 0
+TurnIn s i (more st m) = FramesIn s i (st .frames)
+TurnIn s i (stop n f p m) = n ≡ 0 → ⊥
+TurnIn s i finished = Unit {0}
+
+module _ (h : Here) (s : List ℕ) (i : ℕ) where
+  refuse-in : (n p : ℕ) → (n ≡ 0 → ⊥) → TurnIn s i (refuseAt h n p)
+  unfolding TurnIn
+  refuse-in n p a = a
+
+  enter-in : (l : IncludeLine) (form : ℕ) (w : List ℕ) → Inside s i (l .end) → TurnIn s i (enterTurn h l form w)
+  unfolding TurnIn FramesIn cursorBehind
+  enter-in l form w k =
+      let j = entryOf (h .context .store) form w (h .context .table) in
+      by-test (TurnIn s i) (h .frame .cursor .other || (l .other || (eqb form 1 && eqb (getD w 0 0) 47))) (λ e. λ q. omega arith)
+      (λ e. by-test (TurnIn s i) (leb (length (h .context .table)) j) (λ e. λ q. omega arith)
+      (λ e. by-test (TurnIn s i) (leb 15 (length (h .others))) (λ e. λ q. omega arith) (λ e. k)))
+
+  include-by : (l : IncludeLine) (n : FileName) → Inside s i (l .end) → TurnIn s i (includeBy h l n)
+  include-by l Unnamed k = refuse-in 7 (h .token .at) (λ q. omega arith)
+  include-by l (Quoted a e) k = enter-in l 0 (part (h .body) a e) k
+  include-by l (Angled a e) k = enter-in l 1 (part (h .body) a e) k
+
+  include-in : (l : IncludeLine) → Inside s i (l .end) → TurnIn s i (includeTurn h l)
+  include-in l k =
+      by-test (TurnIn s i) (eqb (l .bars .number) 0) (λ e. include-by l (l .file) k)
+      (λ e. refuse-in (l .bars .number) (l .bars .place) (eqb-false (l .bars .number) 0 e))
+
+  into-in : (j e : ℕ) (u : Turn) → TurnIn s i u
+      → u ≡ goTo h (record { file = j; cursor = opening } ∷ behind h e) (h .state .conds) (h .state .macros) → Inside s i e
+  unfolding TurnIn FramesIn cursorBehind
+  into-in j e u k q = subst (TurnIn s i) q k
+
+  refused-in : (n p : ℕ) (u : Turn) → TurnIn s i u → u ≡ refuseAt h n p → n ≡ 0 → ⊥
+  unfolding TurnIn
+  refused-in n p u k q = subst (TurnIn s i) q k
+
+include-here : (x : Context) (fs : List ℕ) (es : List (List ℕ)) (kind limit : ℕ) (B : Bufs) (ms : List Macro) (z : Stage) (s : List ℕ) (t : Token) → Fixed x fs es kind B → At fs es s t z
+    → IncludeHere (hereOf x limit B ms z) fs es s t (z .cursor .other) (z .depth)
+include-here x fs es kind limit B ms z s t f a =
+    record {
+      store-is = f .store-is;
+      table-is = f .table-is;
+      body-is = body-here f a;
+      token-is = token-at-here f a;
+      other-is = refl;
+      depth-is = outer-length (B .frames) (z .depth - 1);
+    }
+
+-- the frame of the file around
+abbrev around : Stage → Cursor → List ℕ
+around z k = z .file ∷ k .at ∷ k .line ∷ []
+
+around-is : (z : Stage) (s : List ℕ) (e : ℕ) → frameIn (around z (cursorBehind s e (z .cursor))) ≡ record { file = z .file; cursor = cursorBehind s e (z .cursor) }
+unfolding cursorBehind
+around-is z s e = refl
+
+around-ok : (fs : List ℕ) (es : List (List ℕ)) (z : Stage) (k : Cursor) (b : ℕ) → z .file < length es → Reads (bodyOf fs es (z .file)) b k → FrameOk fs es (around z k)
+around-ok fs es z k b l r = record { file-in = l; inside = r .inside; line-small = r .line-small }
+
+-- a file's start
+open-reads : {x : Context} {fs : List ℕ} {es : List (List ℕ)} {kind : ℕ} {B : Bufs} (f : Fixed x fs es kind B) (i : ℕ) → i < length es → Reads (bodyOf fs es i) (placeOf i 0) opening
+open-reads {fs = fs} {es = es} f i l =
+    record {
+      small = entry-body fs (getD es i blankEntry) (entries-sound fs es i (f .entries) l);
+      place-small = omega (arith, f .few-entries);
+      inside = omega arith;
+      line-small = omega arith;
+    }
+
+-- the frames with one more
+frames-ok : (fs : List ℕ) (es fr : List (List ℕ)) (d : ℕ) (v : List ℕ) → 0 < d → d ≤ length fr → ((k : ℕ) → suc k < d → FrameOk fs es (getD fr k blankFrame)) → FrameOk fs es v
+    → (k : ℕ) → suc k < d + 1 → FrameOk fs es (getD (set fr (d - 1) v) k blankFrame)
+frames-ok fs es fr d v p l o f k h = go (eqb k (d - 1)) refl
+  where
+    go : (b : Bool) → eqb k (d - 1) ≡ b → FrameOk fs es (getD (set fr (d - 1) v) k blankFrame)
+    go true e = rw (eqb-true k (d - 1) e, getD-set-same fr (d - 1) v blankFrame (omega arith)) f
+    go false e = rw (getD-set-other fr (d - 1) k v blankFrame (eqb-false k (d - 1) e)) (o k (omega (arith, eqb-false k (d - 1) e)))
+
+pub enter-on : (fs : List ℕ) (es : List (List ℕ)) (s : List ℕ) (t : Token) (fr : List (List ℕ)) (z y r : Stage) (g : Entered) (i e : ℕ)
+    → ((h : Here) → IncludeHere h fs es s t (z .cursor .other) (z .depth) → EnteredBy g h (includeTurn h (includeAt s (t .end))) es (z .depth))
+    → g ≡ entered.Into i e → y ≡ withCursor z (cursorBehind s e (z .cursor)) → r ≡ enteredAt z i
+    → (x : Context) (ms : List Macro) (kind limit : ℕ) (tx mp bs : List ℕ) (rs cd : List (List ℕ))
+    → Fixed x fs es kind (bufs tx mp bs rs fr cd) → At fs es s t z → Ok fs es (bufs tx mp bs rs fr cd) z → Holds ms bs rs (z .macros)
+    → SteppedBy (step.On r) fs es limit (bufs tx mp bs rs fr cd) (bufs tx mp bs rs (set fr (z .depth - 1) (z .file ∷ y .cursor .at ∷ y .cursor .line ∷ [])) cd) ms z
+    (includeTurn (hereOf x limit (bufs tx mp bs rs fr cd) ms z) (includeAt s (t .end)))
+enter-on fs es s t fr z y r g i e k q c w x ms kind limit tx mp bs rs cd f a o h =
+    let H = hereOf x limit (bufs tx mp bs rs fr cd) ms z in
+    let u = includeTurn H (includeAt s (t .end)) in
+    let n : Enters H u es (z .depth) i e = subst (λ (g : Entered). EnteredBy g H u es (z .depth)) q (k H (include-here x fs es kind limit (bufs tx mp bs rs fr cd) ms z s t f a)) in
+    let j : Inside s (t .end) e = into-in H s (t .end) i e u (include-in H s (t .end) (includeAt s (t .end)) (include-inside s (t .end) (token-here a o .within))) (n .turn-is) in
+    let v = around z (cursorBehind s e (z .cursor)) in
+    let d : 0 < z .depth = a .open-file in
+    let m : z .depth < 16 = n .room in
+    let l : 16 ≤ length fr = o .frames-lent in
+    let p : 0 < z .depth + 1 = omega arith in
+    let b : z .depth + 1 - 1 ≡ z .depth = omega arith in
+    let fit : FrameOk fs es v = around-ok fs es z (cursorBehind s e (z .cursor)) (placeOf (z .file) 0) (o .file-in) (reads-there a o e j) in
+    let frames : openFrames (set fr (z .depth - 1) v) (z .depth + 1) i opening ≡ record { file = i; cursor = opening } ∷ behind H e =
+    open-first (set fr (z .depth - 1) v) (z .depth + 1) i opening p
+    ∙ ap (λ (fs : List Frame). record { file = i; cursor = opening } ∷ fs)
+    (ap (outerFrames (set fr (z .depth - 1) v)) b ∙ outer-put fr (z .depth) v d (omega arith)
+    ∙ ap (λ (f : Frame). f ∷ outerFrames fr (z .depth - 1)) (around-is z s e)
+    ∙ ap (λ (b : List ℕ). record { file = z .file; cursor = cursorBehind b e (z .cursor) } ∷ outerFrames fr (z .depth - 1)) (sym (body-here f a))) in
+    rw (w, c) (
+      goes x limit tx mp bs bs rs rs fr (set fr (z .depth - 1) v) cd ms ms z (z .depth + 1) i opening (z .macros) _ u (n .turn-is) frames h,
+      ok-at tx mp bs bs rs rs fr (set fr (z .depth - 1) v) cd z (z .depth + 1) i opening (z .macros) o (omega arith) (n .entry-in)
+          (open-reads f i (n .entry-in)) (frames-ok fs es fr (z .depth) v d (omega arith) (o .outer) fit) (rw length-set l) (o .few-macros),
+    )
+
+pub enter-refused : (fs : List ℕ) (es : List (List ℕ)) (s : List ℕ) (t : Token) (fr : List (List ℕ)) (z : Stage) (r : Step) (g : Entered) (n p : ℕ)
+    → ((h : Here) → IncludeHere h fs es s t (z .cursor .other) (z .depth) → EnteredBy g h (includeTurn h (includeAt s (t .end))) es (z .depth))
+    → g ≡ entered.Refused n p → r ≡ endedAt z n (z .file) p
+    → (x : Context) (ms : List Macro) (kind limit : ℕ) (tx mp bs : List ℕ) (rs cd : List (List ℕ))
+    → Fixed x fs es kind (bufs tx mp bs rs fr cd) → At fs es s t z → Ok fs es (bufs tx mp bs rs fr cd) z → Holds ms bs rs (z .macros)
+    → SteppedBy r fs es limit (bufs tx mp bs rs fr cd) (bufs tx mp bs rs fr cd) ms z (includeTurn (hereOf x limit (bufs tx mp bs rs fr cd) ms z) (includeAt s (t .end)))
+enter-refused fs es s t fr z r g n p k q c x ms kind limit tx mp bs rs cd f a o h =
+    let H = hereOf x limit (bufs tx mp bs rs fr cd) ms z in
+    let u = includeTurn H (includeAt s (t .end)) in
+    let v : u ≡ refuseAt H n p = subst (λ (g : Entered). EnteredBy g H u es (z .depth)) q (k H (include-here x fs es kind limit (bufs tx mp bs rs fr cd) ms z s t f a)) in
+    refuses fs es limit (bufs tx mp bs rs fr cd) ms z r n p u c
+    (refused-in H s (t .end) n p u (include-in H s (t .end) (includeAt s (t .end)) (include-inside s (t .end) (token-here a o .within))) v) v h

@@ -1,0 +1,9 @@
+pub mod Going
+pub mod Barring
+pub mod Writing
+pub mod Usages
+pub mod Taking
+pub mod Unfinished
+pub mod Halting
+pub mod Advancing
+pub mod Reaching

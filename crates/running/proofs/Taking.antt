@@ -1,0 +1,156 @@
+-- Which turn a token takes, and what the functions of its directive need.
+-- Assumes nothing.
+use Prim.Native.Nat.{ℕ, _≤_}
+use mathlib.Core.Bool.{true, false, _&&_}
+use mathlib.Core.List.{List, []}
+use mathlib.Core.Path.{_≡_, sym, ap, subst, _∙_}
+use native.Mathlib.Omega.{arith}
+use lib.Dec.{leb}
+use lib.ListN.{length, getD}
+use borrow.Author.Tests.{eq-eqb, ne-eqb}
+use Rattle.lex.specs.declared.Token.{Token}
+use Rattle.names.specs.Names.{FileWord, LineWord, Define, Undef, UndefineAll, Include, Resetall, EndKeywords}
+use Rattle.directive.specs.Include.{includeAt}
+use Rattle.definition.specs.Definitions.{Macro, definitionAt}
+use Rattle.macros.specs.Defining.{Ready}
+use Rattle.handover.specs.Entries.{blankEntry, nameOf as entryNamed}
+use Rattle.handover.proofs.Laws.{entries-sound, entry-name}
+use Rattle.copying.specs.Copying.{Reads}
+use Rattle.places.specs.Places.{quoted, decimal}
+use Rattle.turns.specs.States.{Context, Turn, stop, nothing, Here, refuse, behind, goTo}
+use Rattle.turns.specs.Turns.{defineTurn, undefTurn, includeTurn, keepTurn, fileWord, lineWord, wordTurn}
+use Rattle.turns.specs.Usages.{usageTurn, takenTurn}
+use Rattle.running.specs.declared.Stage.{Stage}
+use Rattle.running.specs.declared.Step.{Step}
+use Rattle.running.specs.Standing.{Bufs, hereOf, Fixed, At, SteppedBy, Works, GoingIn, UsageLent}
+use Rattle.running.proofs.Going.{reads-here, token-here, token-at-here}
+
+pub as-turn : (r : Step) (fs : List ℕ) (es : List (List ℕ)) (limit : ℕ) (B B′ : Bufs) (ms : List Macro) (z : Stage) (u v : Turn) → u ≡ v
+    → SteppedBy r fs es limit B B′ ms z v → SteppedBy r fs es limit B B′ ms z u
+as-turn r fs es limit B B′ ms z u v e h = subst (λ (u : Turn). SteppedBy r fs es limit B B′ ms z u) (sym e) h
+
+-- ---- what the functions need
+
+module _ {fs : List ℕ} {es : List (List ℕ)} {tx mp bs : List ℕ} {rs fr : List (List ℕ)} {z : Stage} {s : List ℕ} {t : Token}
+    (g : GoingIn fs es tx mp bs rs fr z) (a : At fs es s t z) where
+  pub reads-at : Reads s 0 (z .cursor)
+  reads-at =
+      let r = reads-here a (g .going .ok) in
+      record { small = r .small; place-small = omega arith; inside = r .inside; line-small = r .line-small }
+
+  pub file-small : z .file ≤ 63
+  file-small = omega (arith, g .going .ok .file-in, g .going .few-entries)
+
+  pub line-low : z .cursor .line ≤ 65536
+  line-low = let r = reads-at in omega (arith, r .small, r .inside, r .line-small)
+
+  pub name-fits : length (entryNamed fs es (z .file)) ≤ 255
+  name-fits = entry-name fs (getD es (z .file) blankEntry) (entries-sound fs es (z .file) (g .going .entries) (g .going .ok .file-in))
+
+  module _ {list out ranges : List (List ℕ)} {stack work quoted decimal name form : List ℕ} (w : Works list out ranges stack work quoted decimal name form) where
+    pub usage-lent : UsageLent fs es s t bs rs list out ranges stack work quoted decimal tx mp z
+    usage-lent =
+        record {
+          file-in = g .going .ok .file-in;
+          few-entries = g .going .few-entries;
+          entries = g .going .entries;
+          reads = reads-at;
+          inside = token-here a (g .going .ok) .within;
+          bytes-small = g .going .bytes-small;
+          few-macros = g .going .ok .few-macros;
+          stored = g .going .stored;
+          list-lent = w .list-lent;
+          out-lent = w .out-lent;
+          ranges-lent = w .ranges-lent;
+          stack-lent = w .stack-lent;
+          work-lent = w .work-lent;
+          quoted-lent = w .quoted-lent;
+          decimal-lent = w .decimal-lent;
+          in-text = g .going .ok .copyable .in-text;
+          in-map = g .going .ok .copyable .in-map;
+        }
+
+    pub define-ready : Ready s bs rs (z .macros) name work form
+    define-ready =
+        record {
+          small = g .going .bytes-small;
+          few = g .going .ok .few-macros;
+          stored = g .going .stored;
+          name-long = w .name-lent;
+          work-long = let r = reads-at in omega (arith, r .small, w .work-lent);
+          form-long = omega (arith, g .going .bytes-small, w .form-lent);
+        }
+
+-- ---- which turn
+
+module _ (d : ℕ) (h : Here) where
+  pub taken-usage : d ≡ 0 → takenTurn d h ≡ usageTurn h
+  unfolding takenTurn
+  taken-usage e = simp (eq-eqb d 0 e)
+
+  module _ (n : d ≡ 0 → ⊥) where
+    pub taken-define : {s : List ℕ} {t : Token} → h .body ≡ s → h .token ≡ t → d ≡ Define → takenTurn d h ≡ defineTurn h (definitionAt s (t .end))
+    unfolding takenTurn
+    taken-define {s = s} b k e =
+        let q : takenTurn d h ≡ defineTurn h (definitionAt (h .body) (h .token .end)) = simp (ne-eqb d 0 n, eq-eqb d Define e) in
+        q ∙ ap (λ (b : List ℕ). defineTurn h (definitionAt b (h .token .end))) b ∙ ap (λ (t : Token). defineTurn h (definitionAt s (t .end))) k
+
+    module _ (n2 : d ≡ Define → ⊥) where
+      pub taken-undef : d ≡ Undef → takenTurn d h ≡ undefTurn h
+      unfolding takenTurn
+      taken-undef e = simp (ne-eqb d 0 n, ne-eqb d Define n2, eq-eqb d Undef e)
+
+      module _ (n3 : d ≡ Undef → ⊥) where
+        pub taken-all : {t : Token} → h .token ≡ t → d ≡ UndefineAll → takenTurn d h ≡ goTo h (behind h (t .end)) (h .state .conds) []
+        unfolding takenTurn
+        taken-all k e =
+            let q : takenTurn d h ≡ goTo h (behind h (h .token .end)) (h .state .conds) [] = simp (ne-eqb d 0 n, ne-eqb d Define n2, ne-eqb d Undef n3, eq-eqb d UndefineAll e) in
+            q ∙ ap (λ (t : Token). goTo h (behind h (t .end)) (h .state .conds) []) k
+
+        module _ (n4 : d ≡ UndefineAll → ⊥) where
+          pub taken-include : {s : List ℕ} {t : Token} → h .body ≡ s → h .token ≡ t → d ≡ Include → takenTurn d h ≡ includeTurn h (includeAt s (t .end))
+          unfolding takenTurn
+          taken-include {s = s} b k e =
+              let q : takenTurn d h ≡ includeTurn h (includeAt (h .body) (h .token .end)) =
+              simp (ne-eqb d 0 n, ne-eqb d Define n2, ne-eqb d Undef n3, ne-eqb d UndefineAll n4, eq-eqb d Include e) in
+              q ∙ ap (λ (b : List ℕ). includeTurn h (includeAt b (h .token .end))) b ∙ ap (λ (t : Token). includeTurn h (includeAt s (t .end))) k
+
+          module _ (n5 : d ≡ Include → ⊥) where
+            pub taken-keep : (leb Resetall d && leb d EndKeywords) ≡ true → takenTurn d h ≡ keepTurn d h
+            unfolding takenTurn
+            taken-keep e = simp (ne-eqb d 0 n, ne-eqb d Define n2, ne-eqb d Undef n3, ne-eqb d UndefineAll n4, ne-eqb d Include n5, e)
+
+            module _ (n6 : (leb Resetall d && leb d EndKeywords) ≡ false) where
+              pub taken-file : d ≡ FileWord → takenTurn d h ≡ wordTurn h (fileWord h)
+              unfolding takenTurn
+              taken-file e = simp (ne-eqb d 0 n, ne-eqb d Define n2, ne-eqb d Undef n3, ne-eqb d UndefineAll n4, ne-eqb d Include n5, n6, eq-eqb d FileWord e)
+
+              pub taken-line : (d ≡ FileWord → ⊥) → d ≡ LineWord → takenTurn d h ≡ wordTurn h (lineWord h)
+              unfolding takenTurn
+              taken-line n7 e =
+                  simp (ne-eqb d 0 n, ne-eqb d Define n2, ne-eqb d Undef n3, ne-eqb d UndefineAll n4, ne-eqb d Include n5, n6, ne-eqb d FileWord n7, eq-eqb d LineWord e)
+
+              pub taken-none : (d ≡ FileWord → ⊥) → (d ≡ LineWord → ⊥) → takenTurn d h ≡ refuse h 7
+              unfolding takenTurn
+              taken-none n7 n8 =
+                  simp (ne-eqb d 0 n, ne-eqb d Define n2, ne-eqb d Undef n3, ne-eqb d UndefineAll n4, ne-eqb d Include n5, n6, ne-eqb d FileWord n7, ne-eqb d LineWord n8)
+
+-- ---- what the code writes or refuses there
+
+module _ (limit : ℕ) (ms : List Macro) (z : Stage) {x : Context} {fs : List ℕ} {es : List (List ℕ)} {set : ℕ} {B : Bufs} (f : Fixed x fs es set B) where
+  abbrev h : Here
+  h = hereOf x limit B ms z
+
+  -- `__FILE__`, by the entry's name n
+  pub file-written : (n w : List ℕ) → n ≡ entryNamed fs es (z .file) → w ≡ quoted n → wordTurn h (fileWord h) ≡ wordTurn h w
+  file-written n w e q =
+      let k : fileWord h ≡ w = rw (f .store-is, f .table-is) (sym (q ∙ ap quoted e)) in
+      ap (wordTurn h) k
+
+  -- `__LINE__`
+  pub line-written : (w : List ℕ) → w ≡ decimal 6 (z .cursor .line) → wordTurn h (lineWord h) ≡ wordTurn h w
+  line-written w q = ap (wordTurn h) (sym q)
+
+  -- at the token
+  pub refused-at : {s : List ℕ} {t : Token} (n : ℕ) → At fs es s t z → refuse h n ≡ stop n (z .file) (t .at) nothing
+  refused-at n a = ap (λ (t : Token). stop n (z .file) (t .at) nothing) (token-at-here f a)

@@ -1,0 +1,442 @@
+-- The steps of definitions, of directives that are kept, and of the two `__` words, by what the code knows.
+-- Assumes nothing.
+use Prim.Native.Nat.{ℕ, _<_, _≤_}
+use mathlib.Core.Bool.{Bool, true, false}
+use mathlib.Core.List.{List, [], _∷_}
+use mathlib.Core.Logic.{⊎-elim}
+use mathlib.Core.Path.{_≡_, refl, sym, ap, _∙_, subst, subst⁻¹}
+use native.Mathlib.Nat.{max-zero}
+use native.Mathlib.Omega.{arith}
+use lib.ListN.{length}
+use Rattle.text.specs.Bytes.{part}
+use Rattle.lex.specs.Tokens.{inFile}
+use Rattle.lex.specs.declared.Token.{Token}
+use Rattle.lex.proofs.Progress.{Inside}
+use Rattle.definition.specs.Definitions.{Macro, Definition, barred, bad, good, definitionAt}
+use Rattle.definition.specs.Answers.{Settled, full, over, judgedOf}
+use Rattle.definition.specs.declared.Judged.{Judged}
+use Rattle.definition.specs.declared.Judged.the-variants as judged
+use Rattle.store.specs.Stores.{define, fits}
+use Rattle.store.specs.Buffers.{Holds}
+use Rattle.macros.specs.Defining.{answerTo, macrosAfter, Reads as DefinedBy}
+use Rattle.macros.specs.declared.ReadIn.{ReadIn}
+use Rattle.macros.specs.declared.ReadIn.the-variants as read
+use Rattle.macros.proofs.Kept.{fits-few}
+use Rattle.settings.specs.declared.Settings.{Settings}
+use Rattle.settings.specs.Settings.{setBy}
+use Rattle.writing.specs.Written.{Written, placed, Put, putIn}
+use Rattle.writing.specs.Written as written
+use Rattle.writing.specs.Buffers.{roomOf, Puts, WroteBy}
+use Rattle.writing.specs.declared.Spot.{Spot}
+use Rattle.writing.specs.declared.Wrote.{Wrote}
+use Rattle.writing.specs.declared.Wrote.the-variants as wrote
+use Rattle.writing.proofs.Laws.{puts-none, puts-text, puts-map}
+use Rattle.places.specs.Places.{placeOf}
+use Rattle.copying.specs.Cursors.{cursorBehind}
+use Rattle.copying.specs.Copying.{Reads}
+use Rattle.copying.specs.declared.Cursor.{Cursor}
+use Rattle.directive.specs.declared.Value.{Value}
+use Rattle.directive.specs.declared.Form.{Form}
+use Rattle.directive.specs.declared.Form.the-variants as form
+use Rattle.turns.specs.States.{Context, Frame, State, Made, Turn, more, stop, finished, Here, writes, refuseAt, refuse, behind, goTo, onPut, write, placeHere}
+use Rattle.turns.specs.Turns.{onForm, formHere, defineTurn, hideTurn, keepTurn, wordTurn}
+use Rattle.turns.proofs.Inside.{token-inside, form-inside, bad-inside, good-inside}
+use Rattle.keeping.specs.Keeping.{KeepHere, Keeps, KeptBy}
+use Rattle.keeping.specs.declared.Kept.{Kept}
+use Rattle.keeping.specs.declared.Kept.the-variants as kept
+use Rattle.running.specs.declared.Stage.{Stage}
+use Rattle.running.specs.declared.Step.{Step}
+use Rattle.running.specs.declared.Step.the-variants as step
+use Rattle.running.specs.Standing.{bufs, hereOf, endedAt, withCursor, withSpot, Ok, Fixed, At, Moves, SteppedBy}
+use Rattle.running.proofs.Going.{open-first, stops, reads-here, token-here, reads-there, body-here, token-at-here}
+use Rattle.running.proofs.Barring.{definition-number, put-number, keep-number}
+
+-- a stage with other macros, or another directive state
+abbrev pub withMacros : Stage → ℕ → Stage
+withMacros z n =
+    record {
+      depth = z .depth;
+      file = z .file;
+      cursor = z .cursor;
+      blocks = z .blocks;
+      macros = n;
+      settings = z .settings;
+      spot = z .spot;
+      count = z .count;
+      deepest = z .deepest;
+    }
+
+abbrev pub withSettings : Stage → Settings → Stage
+withSettings z x =
+    record {
+      depth = z .depth;
+      file = z .file;
+      cursor = z .cursor;
+      blocks = z .blocks;
+      macros = z .macros;
+      settings = x;
+      spot = z .spot;
+      count = z .count;
+      deepest = z .deepest;
+    }
+
+-- with all that a step here may change
+abbrev movedTo : Stage → Cursor → ℕ → Settings → Spot → Stage
+movedTo z c n x y =
+    record {
+      depth = z .depth;
+      file = z .file;
+      cursor = c;
+      blocks = z .blocks;
+      macros = n;
+      settings = x;
+      spot = y;
+      count = z .count;
+      deepest = z .deepest;
+    }
+
+-- the cursor of a stage is one of the file
+pub spot-reads : (s : List ℕ) (z y : Stage) (p : Spot) → Reads s 0 (z .cursor) → y ≡ withSpot z p → Reads s 0 (y .cursor)
+spot-reads s z y p r e = subst⁻¹ (λ (k : Stage). Reads s 0 (k .cursor)) e r
+
+-- ---- where a directive that is kept ends
+
+abbrev headAt : List Frame → ℕ
+headAt [] = 0
+headAt (f ∷ fs) = f .cursor .at
+
+abbrev endOf : Turn → ℕ
+endOf (more v m) = headAt (v .frames)
+endOf (stop n f p m) = 0
+endOf finished = 0
+
+module _ (h : Here) (e : ℕ) where
+  put-ends : (ws : List Written) (y : ℕ) (c : Settings) (p : Put) (v : State) (m : Made) → onPut h ws (behind h y) c p ≡ more v m → v .frames ≡ behind h e → y ≡ e
+  unfolding cursorBehind
+  put-ends ws y c (written.full n) v m q f = let z : _≡_ {A = ℕ} 0 1 = cc in absurd (omega arith)
+  put-ends ws y c (written.fitted r) v m q f = ap endOf q ∙ ap headAt f
+
+abbrev keptBy : Here → Value → ℕ → Turn
+keptBy h a y = write h (placed 1 (placeHere h) (part (h .body) (h .token .at) y)) (behind h y) (setBy a (h .context .set) (h .state .settings))
+
+keep-ends : (h : Here) (d e : ℕ) (v : State) (m : Made) → keepTurn d h ≡ more v m → v .frames ≡ behind h e → h .token .end ≤ length (h .body)
+    → Inside (h .body) (h .token .end) e
+keep-ends h d e v m q f l = go (formHere d h) refl q
+  where
+    go : (k : Form) → formHere d h ≡ k → onForm h k (keptBy h) ≡ more v m → Inside (h .body) (h .token .end) e
+    go (form.Formed a y) i j =
+        subst (λ (n : ℕ). Inside (h .body) (h .token .end) n) (put-ends h e _ y _ (putIn (h .state .room) _) v m j f)
+        (form-inside (h .body) (h .token .end) l d a y i)
+    go form.Unformed i j = let z : _≡_ {A = ℕ} 0 1 = cc in absurd (omega arith)
+    go (form.Barred n p) i j = let z : _≡_ {A = ℕ} 0 1 = cc in absurd (omega arith)
+
+module _ (limit : ℕ) (ms : List Macro) {x : Context} {fs : List ℕ} {es : List (List ℕ)} {set : ℕ} {tx mp bs : List ℕ} {rs fr cd : List (List ℕ)}
+    {z : Stage} {s : List ℕ} {t : Token} (fixed : Fixed x fs es set (bufs tx mp bs rs fr cd)) (here : At fs es s t z)
+    (ok : Ok fs es (bufs tx mp bs rs fr cd) z) where
+  abbrev h : Here
+  h = hereOf x limit (bufs tx mp bs rs fr cd) ms z
+
+  word-in : Inside s (t .end) (t .end)
+  word-in = record { past = omega arith; within = token-here here ok .within }
+
+  -- ---- the next stage
+
+  ok-at : (tx′ mp′ bs′ : List ℕ) (rs′ : List (List ℕ)) (e n : ℕ) (c : Settings) (y : Spot) → Inside s (t .end) e → n ≤ 256
+      → y .written ≤ length tx′ → y .lines ≤ length mp′
+      → Ok fs es (bufs tx′ mp′ bs′ rs′ fr cd) (movedTo z (cursorBehind s e (z .cursor)) n c y)
+  ok-at tx′ mp′ bs′ rs′ e n c y i l p q =
+      record {
+        few-files = ok .few-files;
+        file-in = ok .file-in;
+        copyable = record { reads = reads-there here ok e i; in-text = p; in-map = q };
+        outer = ok .outer;
+        frames-lent = ok .frames-lent;
+        blocks-are = ok .blocks-are;
+        few-macros = l;
+      }
+
+  moves-at : (tx′ mp′ bs′ : List ℕ) (rs′ : List (List ℕ)) (ms′ : List Macro) (e n : ℕ) (c : Settings) (y : Spot) (ws : List Written) (u : Turn)
+      → u ≡ more
+      (record {
+        frames = behind h e;
+        conds = h .state .conds;
+        macros = ms′;
+        settings = c;
+        room = roomOf (length tx) (length mp) y;
+        left = h .state .left;
+      })
+      (writes ws)
+      → Holds ms′ bs′ rs′ n → Puts ws tx tx′ mp mp′ (z .spot) y
+      → Moves limit (bufs tx mp bs rs fr cd) (bufs tx′ mp′ bs′ rs′ fr cd) z (movedTo z (cursorBehind s e (z .cursor)) n c y) u
+  moves-at tx′ mp′ bs′ rs′ ms′ e n c y ws u q g p =
+      record {
+        macros = ms′;
+        made = writes ws;
+        turn-is = q ∙ rw (open-first fr (z .depth) (z .file) (cursorBehind s e (z .cursor)) (here .open-file), body-here fixed here, puts-text p, puts-map p);
+        holds = g;
+        puts = p;
+        count-is = omega arith;
+        deepest-is = sym (max-zero (z .deepest));
+      }
+
+  -- behind a directive, with nothing written
+  goes-at : (bs′ : List ℕ) (rs′ : List (List ℕ)) (ms′ : List Macro) (e n : ℕ) (u : Turn) → u ≡ goTo h (behind h e) (h .state .conds) ms′
+      → Holds ms′ bs′ rs′ n → n ≤ 256 → Inside s (t .end) e
+      → SteppedBy (step.On (withMacros (withCursor z (cursorBehind s e (z .cursor))) n)) fs es limit (bufs tx mp bs rs fr cd) (bufs tx mp bs′ rs′ fr cd) ms z u
+  goes-at bs′ rs′ ms′ e n u q g l i = (
+    moves-at tx mp bs′ rs′ ms′ e n (z .settings) (z .spot) [] u q g (puts-none tx mp (z .spot)),
+    ok-at tx mp bs′ rs′ e n (z .settings) (z .spot) i l (ok .copyable .in-text) (ok .copyable .in-map),
+  )
+
+  -- ---- a refusal
+
+  stops-at : (tx′ mp′ bs′ : List ℕ) (rs′ : List (List ℕ)) (n p : ℕ) (u : Turn) (r : Step) → r ≡ endedAt z n (z .file) p → 0 < n → u ≡ refuseAt h n p
+      → tx′ ≡ tx → mp′ ≡ mp → Holds ms bs′ rs′ (z .macros)
+      → SteppedBy r fs es limit (bufs tx mp bs rs fr cd) (bufs tx′ mp′ bs′ rs′ fr cd) ms z u
+  stops-at tx′ mp′ bs′ rs′ n p u r e l q a b g =
+      subst⁻¹ (λ (k : Step). SteppedBy k fs es limit (bufs tx mp bs rs fr cd) (bufs tx′ mp′ bs′ rs′ fr cd) ms z u) e
+      (stops (bufs tx mp bs rs fr cd) (bufs tx′ mp′ bs′ rs′ fr cd) ms z n p u (λ i. omega arith) q a b g)
+
+  -- 7, 11, 12, 19, 20: at the token
+  refused-here : (n : ℕ) → refuse h n ≡ refuseAt h n (t .at)
+  refused-here n = ap (λ (k : Token). refuseAt h n (k .at)) (token-at-here fixed here)
+
+  -- ---- a definition in taken text
+
+  module _ (held : Holds ms bs rs (z .macros)) {bs′ : List ℕ} {rs′ : List (List ℕ)} {a : ReadIn} (reads : DefinedBy (definitionAt s (t .end)) ms bs bs′ rs rs′ a) where
+    abbrev d : Definition
+    d = definitionAt s (t .end)
+
+    abbrev Defined : Step → Type 0
+    Defined r = SteppedBy r fs es limit (bufs tx mp bs rs fr cd) (bufs tx mp bs′ rs′ fr cd) ms z (defineTurn h d)
+
+    rooms : (m : Macro) → fits (x .records) (x .bytes) (define m ms) ≡ fits (length rs) (length bs) (define m ms)
+    rooms m = rw (fixed .records-are, fixed .bytes-are)
+
+    -- the macros as they were
+    same-macros : macrosAfter (length rs) (length bs) ms d ≡ ms → Holds ms bs′ rs′ (z .macros)
+    same-macros e =
+        let g : Holds ms bs′ rs′ (length ms) = rw e at (reads .holds) in
+        subst⁻¹ (λ (n : ℕ). Holds ms bs′ rs′ n) (held .count) g
+
+    pub define-done : {n e : ℕ} {y : Stage} → a ≡ read.Done n e → y ≡ withCursor z (cursorBehind s e (z .cursor)) → Defined (step.On (withMacros y n))
+    define-done {n} {e} {y} q w =
+        subst⁻¹ (λ (k : Stage). Defined (step.On (withMacros k n))) w (go d refl (sym q ∙ reads .answer) (reads .holds))
+      where
+        go : (v : Definition) → d ≡ v → read.Done n e ≡ answerTo (length rs) (length bs) ms v
+            → Holds (macrosAfter (length rs) (length bs) ms v) bs′ rs′ (length (macrosAfter (length rs) (length bs) ms v))
+            → Defined (step.On (withMacros (withCursor z (cursorBehind s e (z .cursor))) n))
+        go (barred k p) i j g = let c : _≡_ {A = ℕ} 0 1 = cc in absurd (omega arith)
+        go (bad k) i j g = let c : _≡_ {A = ℕ} 0 1 = cc in absurd (omega arith)
+        go (good m k) i j g = by (fits (length rs) (length bs) (define m ms)) refl
+          where
+            by : (b : Bool) → fits (length rs) (length bs) (define m ms) ≡ b → Defined (step.On (withMacros (withCursor z (cursorBehind s e (z .cursor))) n))
+            by true f =
+                let j′ : read.Done n e ≡ read.Done (length (define m ms)) k = rw f at j in
+                let c : n ≡ length (define m ms) = cc in
+                let o : e ≡ k = cc in
+                let g′ : Holds (define m ms) bs′ rs′ (length (define m ms)) = rw f at g in
+                let i′ : d ≡ good m e = i ∙ ap (good m) (sym o) in
+                goes-at bs′ rs′ (define m ms) e n (defineTurn h d) (rw (i′, rooms m, f)) (subst⁻¹ (λ (l : ℕ). Holds (define m ms) bs′ rs′ l) c g′)
+                (omega (arith, fits-few (length rs) (length bs) (define m ms) f)) (good-inside s (t .end) (token-here here ok .within) m e i′)
+            by false f =
+                let j′ : read.Done n e ≡ read.NoRoom = rw f at j in
+                let c : _≡_ {A = ℕ} 0 1 = cc in
+                absurd (omega arith)
+
+    pub define-barred : {n p : ℕ} {r : Step} → a ≡ read.Barred n p → r ≡ endedAt z n (z .file) p → Defined r
+    define-barred {n} {p} {r} q w = go d refl (sym q ∙ reads .answer)
+      where
+        go : (v : Definition) → d ≡ v → read.Barred n p ≡ answerTo (length rs) (length bs) ms v → Defined r
+        go (barred k l) i j =
+            let c : n ≡ k = cc in
+            let o : p ≡ l = cc in
+            let i′ : d ≡ barred n p = rw (c, o) i in
+            stops-at tx mp bs′ rs′ n p (defineTurn h d) r w (definition-number s (t .end) n p i′) (rw i′) refl refl (same-macros (rw i))
+        go (bad k) i j = let c : _≡_ {A = ℕ} 0 1 = cc in absurd (omega arith)
+        go (good m k) i j = by (fits (length rs) (length bs) (define m ms)) refl
+          where
+            by : (b : Bool) → fits (length rs) (length bs) (define m ms) ≡ b → Defined r
+            by true f =
+                let j′ : read.Barred n p ≡ read.Done (length (define m ms)) k = rw f at j in
+                let c : _≡_ {A = ℕ} 0 1 = cc in
+                absurd (omega arith)
+            by false f =
+                let j′ : read.Barred n p ≡ read.NoRoom = rw f at j in
+                let c : _≡_ {A = ℕ} 0 1 = cc in
+                absurd (omega arith)
+
+    pub define-bad : {r : Step} → a ≡ read.Bad → r ≡ endedAt z 11 (z .file) (t .at) → Defined r
+    define-bad {r} q w = go d refl (sym q ∙ reads .answer)
+      where
+        go : (v : Definition) → d ≡ v → read.Bad ≡ answerTo (length rs) (length bs) ms v → Defined r
+        go (barred k l) i j = let c : _≡_ {A = ℕ} 0 1 = cc in absurd (omega arith)
+        go (bad k) i j =
+            stops-at tx mp bs′ rs′ 11 (t .at) (defineTurn h d) r w (omega arith) (rw i (refused-here 11)) refl refl (same-macros (rw i))
+        go (good m k) i j = by (fits (length rs) (length bs) (define m ms)) refl
+          where
+            by : (b : Bool) → fits (length rs) (length bs) (define m ms) ≡ b → Defined r
+            by true f =
+                let j′ : read.Bad ≡ read.Done (length (define m ms)) k = rw f at j in
+                let c : _≡_ {A = ℕ} 0 1 = cc in
+                absurd (omega arith)
+            by false f =
+                let j′ : read.Bad ≡ read.NoRoom = rw f at j in
+                let c : _≡_ {A = ℕ} 0 1 = cc in
+                absurd (omega arith)
+
+    pub define-full : {r : Step} → a ≡ read.NoRoom → r ≡ endedAt z 12 (z .file) (t .at) → Defined r
+    define-full {r} q w = go d refl (sym q ∙ reads .answer)
+      where
+        go : (v : Definition) → d ≡ v → read.NoRoom ≡ answerTo (length rs) (length bs) ms v → Defined r
+        go (barred k l) i j = let c : _≡_ {A = ℕ} 0 1 = cc in absurd (omega arith)
+        go (bad k) i j = let c : _≡_ {A = ℕ} 0 1 = cc in absurd (omega arith)
+        go (good m k) i j = by (fits (length rs) (length bs) (define m ms)) refl
+          where
+            by : (b : Bool) → fits (length rs) (length bs) (define m ms) ≡ b → Defined r
+            by true f =
+                let j′ : read.NoRoom ≡ read.Done (length (define m ms)) k = rw f at j in
+                let c : _≡_ {A = ℕ} 0 1 = cc in
+                absurd (omega arith)
+            by false f =
+                stops-at tx mp bs′ rs′ 12 (t .at) (defineTurn h d) r w (omega arith) (rw (i, rooms m, f) (refused-here 12)) refl refl (same-macros (rw (i, f)))
+
+  -- ---- a definition in ignored text
+
+  module _ (held : Holds ms bs rs (z .macros)) {stack : List ℕ} {j : Judged} (settled : Settled s stack judged.Short (judgedOf (definitionAt s (t .end))) j)
+      (long : 16384 ≤ length stack) where
+    abbrev Hidden : Step → Type 0
+    Hidden r = SteppedBy r fs es limit (bufs tx mp bs rs fr cd) (bufs tx mp bs rs fr cd) ms z (hideTurn h (definitionAt s (t .end)))
+
+    right : j ≡ judgedOf (definitionAt s (t .end))
+    right = go settled
+      where
+        small : length s ≤ 65535
+        small = subst (λ (b : List ℕ). length b ≤ 65535) (here .body-is) (ok .copyable .reads .small)
+
+        go : Settled s stack judged.Short (judgedOf (definitionAt s (t .end))) j → j ≡ judgedOf (definitionAt s (t .end))
+        go (full e) = e
+        go (over e f) = absurd (⊎-elim (λ g. omega (arith, small)) (λ g. omega (arith, small)) f)
+
+    pub hide-barred : {n p : ℕ} {r : Step} → j ≡ judged.Barred n p → r ≡ endedAt z n (z .file) p → Hidden r
+    hide-barred {n} {p} {r} q w = go (definitionAt s (t .end)) refl (sym q ∙ right)
+      where
+        go : (v : Definition) → definitionAt s (t .end) ≡ v → judged.Barred n p ≡ judgedOf v → Hidden r
+        go (barred k l) i e =
+            let c : n ≡ k = cc in
+            let o : p ≡ l = cc in
+            let i′ : definitionAt s (t .end) ≡ barred n p = rw (c, o) i in
+            stops-at tx mp bs rs n p (hideTurn h (definitionAt s (t .end))) r w (definition-number s (t .end) n p i′) (rw i′) refl refl held
+        go (bad k) i e = let c : _≡_ {A = ℕ} 0 1 = cc in absurd (omega arith)
+        go (good m k) i e = let c : _≡_ {A = ℕ} 0 1 = cc in absurd (omega arith)
+
+    hidden-to : {e : ℕ} {y : Stage} → y ≡ withCursor z (cursorBehind s e (z .cursor)) → Inside s (t .end) e
+        → hideTurn h (definitionAt s (t .end)) ≡ goTo h (behind h e) (h .state .conds) ms → Hidden (step.On y)
+    hidden-to {e} {y} w i q =
+        subst⁻¹ (λ (k : Stage). Hidden (step.On k)) w (goes-at bs rs ms e (z .macros) (hideTurn h (definitionAt s (t .end))) q held (ok .few-macros) i)
+
+    pub hide-bad : {e : ℕ} {y : Stage} → j ≡ judged.Bad e → y ≡ withCursor z (cursorBehind s e (z .cursor)) → Hidden (step.On y)
+    hide-bad {e} {y} q w = go (definitionAt s (t .end)) refl (sym q ∙ right)
+      where
+        go : (v : Definition) → definitionAt s (t .end) ≡ v → judged.Bad e ≡ judgedOf v → Hidden (step.On y)
+        go (barred k l) i f = let c : _≡_ {A = ℕ} 0 1 = cc in absurd (omega arith)
+        go (bad k) i f =
+            let o : e ≡ k = cc in
+            let i′ : definitionAt s (t .end) ≡ bad e = i ∙ ap bad (sym o) in
+            hidden-to w (bad-inside s (t .end) (token-here here ok .within) e i′) (rw i′)
+        go (good m k) i f = let c : _≡_ {A = ℕ} 0 1 = cc in absurd (omega arith)
+
+    pub hide-good : {e : ℕ} {y : Stage} → j ≡ judged.Good e → y ≡ withCursor z (cursorBehind s e (z .cursor)) → Hidden (step.On y)
+    hide-good {e} {y} q w = go (definitionAt s (t .end)) refl (sym q ∙ right)
+      where
+        go : (v : Definition) → definitionAt s (t .end) ≡ v → judged.Good e ≡ judgedOf v → Hidden (step.On y)
+        go (barred k l) i f = let c : _≡_ {A = ℕ} 0 1 = cc in absurd (omega arith)
+        go (bad k) i f = let c : _≡_ {A = ℕ} 0 1 = cc in absurd (omega arith)
+        go (good m k) i f =
+            let o : e ≡ k = cc in
+            let i′ : definitionAt s (t .end) ≡ good m e = i ∙ ap (good m) (sym o) in
+            hidden-to w (good-inside s (t .end) (token-here here ok .within) m e i′) (rw i′)
+
+    pub never-short : j ≡ judged.Short → ⊥
+    never-short q = go (definitionAt s (t .end)) (sym q ∙ right)
+      where
+        go : (v : Definition) → judged.Short ≡ judgedOf v → ⊥
+        go (barred k l) f = let c : _≡_ {A = ℕ} 0 1 = cc in omega arith
+        go (bad k) f = let c : _≡_ {A = ℕ} 0 1 = cc in omega arith
+        go (good m k) f = let c : _≡_ {A = ℕ} 0 1 = cc in omega arith
+
+  -- ---- what is written
+
+  module _ (held : Holds ms bs rs (z .macros)) (tx′ mp′ : List ℕ) where
+    abbrev WrittenBy : Step → Turn → Type 0
+    WrittenBy r u = SteppedBy r fs es limit (bufs tx mp bs rs fr cd) (bufs tx′ mp′ bs rs fr cd) ms z u
+
+    written-to : (e : ℕ) (c : Settings) (y : Spot) (ws : List Written) (u : Turn)
+        → u ≡ more
+        (record {
+          frames = behind h e;
+          conds = h .state .conds;
+          macros = ms;
+          settings = c;
+          room = roomOf (length tx) (length mp) y;
+          left = h .state .left;
+        })
+        (writes ws)
+        → Puts ws tx tx′ mp mp′ (z .spot) y → y .written ≤ length tx → y .lines ≤ length mp → Inside s (t .end) e
+        → WrittenBy (step.On (movedTo z (cursorBehind s e (z .cursor)) (z .macros) c y)) u
+    written-to e c y ws u q p k l i = (
+      moves-at tx′ mp′ bs rs ms e (z .macros) c y ws u q held p,
+      ok-at tx′ mp′ bs rs e (z .macros) c y i (ok .few-macros) (omega (arith, puts-text p)) (omega (arith, puts-map p)),
+    )
+
+    module _ {place : ℕ} (place-is : place ≡ placeOf (z .file) (z .cursor .line)) where
+      -- one of the two `__` words
+      module _ (w : List ℕ) {r : Wrote} (b : WroteBy r (placed 0 place w) tx tx′ mp mp′ (z .spot)) where
+        word-by : (q : Wrote) → r ≡ q → WroteBy q (placed 0 (placeHere h) w) tx tx′ mp mp′ (z .spot)
+        word-by q e =
+            let c : WroteBy q (placed 0 place w) tx tx′ mp mp′ (z .spot) = subst (λ (k : Wrote). WroteBy k (placed 0 place w) tx tx′ mp mp′ (z .spot)) e b in
+            subst (λ (k : ℕ). WroteBy q (placed 0 k w) tx tx′ mp mp′ (z .spot)) place-is c
+
+        pub word-full : {k : ℕ} {v : Step} → r ≡ wrote.Full k → v ≡ endedAt z k (z .file) (t .at) → WrittenBy v (wordTurn h w)
+        word-full {k} {v} q e =
+            let c = word-by (wrote.Full k) q in
+            stops-at tx′ mp′ bs rs k (t .at) (wordTurn h w) v e (put-number (h .state .room) (placed 0 (placeHere h) w) k (c .0)) (rw (c .0) (refused-here k))
+            (c .1) (c .2) held
+
+        pub word-upto : {y : Spot} {z₁ v : Stage} → r ≡ wrote.Upto y → z₁ ≡ withSpot z y → v ≡ withCursor z₁ (cursorBehind s (t .end) (z₁ .cursor))
+            → WrittenBy (step.On v) (wordTurn h w)
+        word-upto {y} {z₁} {v} q f e =
+            let c = word-by (wrote.Upto y) q in
+            let e′ : v ≡ withCursor (withSpot z y) (cursorBehind s (t .end) (z .cursor)) = e ∙ ap (λ (k : Stage). withCursor k (cursorBehind s (t .end) (k .cursor))) f in
+            subst⁻¹ (λ (k : Stage). WrittenBy (step.On k) (wordTurn h w)) e′
+            (written-to (t .end) (z .settings) y (placed 0 (placeHere h) w) (wordTurn h w) (rw (c .1, token-at-here fixed here)) (c .0) (c .2) (c .3) word-in)
+
+      kept-here : KeepHere h s t set place (z .settings) tx mp (z .spot)
+      kept-here = record {
+        set-is = fixed .set-is;
+        body-is = body-here fixed here;
+        token-is = token-at-here fixed here;
+        place-is = sym place-is;
+        settings-are = refl;
+        room-is = refl;
+      }
+
+      -- a directive that is kept
+      module _ (n : ℕ) {r : Kept} (b : (g : Here) → KeepHere g s t set place (z .settings) tx mp (z .spot) → KeptBy r g (keepTurn n g) tx tx′ mp mp′ (z .spot)) where
+        kept-by : (q : Kept) → r ≡ q → KeptBy q h (keepTurn n h) tx tx′ mp mp′ (z .spot)
+        kept-by q e = subst (λ (k : Kept). KeptBy k h (keepTurn n h) tx tx′ mp mp′ (z .spot)) e (b h kept-here)
+
+        pub keep-refused : {k p : ℕ} {v : Step} → r ≡ kept.Refused k p → v ≡ endedAt z k (z .file) p → WrittenBy v (keepTurn n h)
+        keep-refused {k} {p} {v} q e =
+            let c = kept-by (kept.Refused k p) q in
+            stops-at tx′ mp′ bs rs k p (keepTurn n h) v e (keep-number h n k p (c .0)) (c .0) (c .1) (c .2) held
+
+        pub keep-to : {c : Settings} {y : Spot} {e : ℕ} {z₁ v : Stage} → r ≡ kept.To c y e → z₁ ≡ withSpot z y
+            → v ≡ withCursor z₁ (cursorBehind s e (z₁ .cursor)) → WrittenBy (step.On (withSettings v c)) (keepTurn n h)
+        keep-to {c} {y} {e} {z₁} {v} q f g =
+            let k : Keeps h (keepTurn n h) tx tx′ mp mp′ c (z .spot) y e = kept-by (kept.To c y e) q in
+            let i : Inside (h .body) (h .token .end) e = keep-ends h n e _ _ (k .turn-is) refl (token-inside inFile (h .body) (z .cursor .at) (rw (body-here fixed here) (reads-here here ok .inside)) .within) in
+            let i′ : Inside s (t .end) e = rw (token-at-here fixed here, body-here fixed here) at i in
+            let g′ : v ≡ withCursor (withSpot z y) (cursorBehind s e (z .cursor)) = g ∙ ap (λ (j : Stage). withCursor j (cursorBehind s e (j .cursor))) f in
+            subst⁻¹ (λ (j : Stage). WrittenBy (step.On (withSettings j c)) (keepTurn n h)) g′
+            (written-to e c y (k .written) (keepTurn n h) (k .turn-is) (k .puts) (k .in-text) (k .in-map) i′)

@@ -1,0 +1,4 @@
+pub mod Passing
+pub mod Chains
+pub mod Meaning
+pub mod Meeting

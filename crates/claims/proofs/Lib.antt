@@ -13,4 +13,5 @@ pub mod Pieces
 pub mod PiecesTokens
 pub mod PiecesTexts
 pub mod PiecesAccents
+pub mod Demands
 pub mod Whole

@@ -1,15 +1,13 @@
--- The claim over flatten and classify.
+-- The claim over flatten, classify and pass.
 -- Assumes nothing.
-use mathlib.Core.List.{List}
-use Prim.Native.Nat.{ℕ}
 use Rattle.handover.specs.Sizes.{HandOver, Rooms}
 use Rattle.turns.specs.Runs.{contextOf}
 use Rattle.turns.proofs.Claims as example
 use Rattle.turns.proofs.Rooms.{text-fits, map-fits, map-lines}
 use Rattle.turns.proofs.Lines.{map-places}
 use Rattle.classify.proofs.Claims as words
-use Rattle.claims.specs.Growing.{Larger}
 use Rattle.claims.specs.Claim.{Bench, Always, Claim}
+use Rattle.claims.proofs.Demands.{demand-three}
 use Rattle.claims.proofs.Growing.{larger-grows}
 use Rattle.claims.proofs.Refused.{refused-placed, refused-number, one-exactly, unsound-one}
 use Rattle.claims.proofs.Pieces.{text-from-pieces}
@@ -46,4 +44,4 @@ always h r =
     }
 
 pub whole : Claim
-whole = record { bench = bench; always = always }
+whole = record { bench = bench; always = always; demand-three = demand-three }

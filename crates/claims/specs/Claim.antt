@@ -1,4 +1,4 @@
--- The claim over flatten and classify: 01's starred bench examples, and what holds of every hand-over.
+-- The claim over flatten, classify and pass: 01's starred bench examples, what holds of every hand-over, and demand 3.
 -- Assumes nothing.
 use Prim.Native.Nat.{ℕ, _≤_}
 use mathlib.Core.Bool.{true, false}
@@ -17,6 +17,7 @@ use Rattle.classify.specs.Answer.{outcomeOf}
 use Rattle.claims.specs.Growing.{Larger, Grows}
 use Rattle.claims.specs.Refused.{PlacedIn, NumberedIn}
 use Rattle.claims.specs.Pieces.{Kept, Piece, Pieces}
+use Rattle.claims.specs.Demands.{DemandThree}
 
 abbrev pub only : List (List ℕ) → Words
 only ws = record { words = ws; number = 0; place = 0 }
@@ -57,3 +58,4 @@ pub record Always (h : HandOver) (r : Rooms) : Type 0 where
 pub record Claim : Type 0 where
   pub bench : Bench
   pub always : (h : HandOver) (r : Rooms) → Always h r
+  pub demand-three : DemandThree

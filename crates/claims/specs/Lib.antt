@@ -2,3 +2,4 @@ pub mod Growing
 pub mod Refused
 pub mod Pieces
 pub mod Claim
+pub mod Demands

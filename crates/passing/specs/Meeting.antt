@@ -59,6 +59,12 @@ pub record Part (x : Context) (s₀ s : State) : Type 0 where
   pub made : Made
   pub whole : runFrom x s₀ ≡ onto made (runFrom x s)
 
+-- "every usage met in a file is such a one", and none of their chains has more than n macros
+abbrev pub AllTame : HandOver → Rooms → ℕ → Type 0
+AllTame h r n =
+    (s : State) (a : Here) (w : List ℕ) → Through (contextOf h r) (startOf h r) s → Meets (contextOf h r) s a w
+    → Tame a w × (chainFrom (s .macros) w ≤ n)
+
 -- Demand 3, of the flattening of a hand-over in these rooms
 pub record Demand3 (h : HandOver) (r : Rooms) : Type 0 where
   -- what is said of a state is said of the flattening: its run is the rest of the whole
@@ -72,8 +78,6 @@ pub record Demand3 (h : HandOver) (r : Rooms) : Type 0 where
   -- "no token of its expansion comes out of more nested macro texts than there are macros in the longest chain"
   pub each-deep : (s : State) (a : Here) (w : List ℕ) → Through (contextOf h r) (startOf h r) s → Meets (contextOf h r) s a w → Tame a w
       → expansionAt a w .depth ≤ chainFrom (s .macros) w
-  -- "If every usage met in a file is such a one, the deepest nesting reported is at most the number of macros in the longest of
-  -- these chains": at most every number that none of them exceeds, 0 if none is met
-  pub deepest : (n : ℕ)
-      → ((s : State) (a : Here) (w : List ℕ) → Through (contextOf h r) (startOf h r) s → Meets (contextOf h r) s a w → Tame a w × (chainFrom (s .macros) w ≤ n))
-      → flattened h r .depth ≤ n
+  -- "the deepest nesting reported is at most the number of macros in the longest of these chains, and 0 if none is met": at most
+  -- every number that none of them exceeds
+  pub deepest : (n : ℕ) → AllTame h r n → flattened h r .depth ≤ n

@@ -20,7 +20,7 @@ use Rattle.pending.specs.Sources.Spans.{none}
 use Rattle.pending.proofs.Spanning.{spans-snoc}
 use Rattle.arguments.specs.Arguments.{Move, keep, part, close, fail, moveOf, Args, bad, args, push, split, after, collect}
 use Rattle.arguments.specs.Moving.{MovedBy}
-use Rattle.arguments.specs.Ranges.{Ranged, Lists}
+use Rattle.arguments.specs.Ranges.{Ranged, placedFrom, placedTo, Unplaced, Lists}
 use Rattle.arguments.specs.declared.Move as moved
 use Rattle.arguments.specs.declared.Move.the-variants as move
 
@@ -86,11 +86,14 @@ Placed f last r xs = Spans f (getD r 0 0) (getD r 1 0) xs × (getD r 1 0 ≤ las
 
 module _ {f : ℕ → List Pending} {last : ℕ} where
   ranged-set : (r : List (List ℕ)) (done : List (List Pending)) (k from to : ℕ) (cur : List Pending) → Ranged f last r done
-      → k ≡ length done → Spans f from to cur → to ≤ last → Ranged f last (set r k (from ∷ to ∷ [])) (done ++ cur ∷ [])
+      → k ≡ length done → Spans f from to cur → to ≤ last → Ranged f last (set r k (from ∷ to ∷ 1 ∷ 0 ∷ [])) (done ++ cur ∷ [])
   ranged-set r done k from to cur a q sp w j h l = go (eq-or-lt-of-le below)
     where
+      blank : List ℕ
+      blank = 0 ∷ 0 ∷ 0 ∷ 0 ∷ []
+
       v : List ℕ
-      v = from ∷ to ∷ []
+      v = from ∷ to ∷ 1 ∷ 0 ∷ []
 
       below : j ≤ length done
       below = omega (arith, length-append done (cur ∷ []))
@@ -98,36 +101,62 @@ module _ {f : ℕ → List Pending} {last : ℕ} where
       there : j < length r
       there = omega (arith, length-set r k v)
 
-      go : (j ≡ length done) ⊎ (j < length done) → Placed f last (getD (set r k v) j (0 ∷ 0 ∷ [])) (getD (done ++ cur ∷ []) j [])
+      go : (j ≡ length done) ⊎ (j < length done) → Placed f last (getD (set r k v) j blank) (getD (done ++ cur ∷ []) j [])
       go (inl e) =
           let x : j ≡ k = e ∙ sym q in
-          let y : getD (set r k v) j (0 ∷ 0 ∷ []) ≡ v = rw x (getD-set-same r k v (0 ∷ 0 ∷ []) (omega (arith, there))) in
+          let y : getD (set r k v) j blank ≡ v = rw x (getD-set-same r k v blank (omega (arith, there))) in
           let z : getD (done ++ cur ∷ []) j [] ≡ cur = getD-at done cur [] [] j (sym e) in
           rw (y, z) (sp, w)
       go (inr b) =
-          let y : getD (set r k v) j (0 ∷ 0 ∷ []) ≡ getD r j (0 ∷ 0 ∷ []) = getD-set-other r k j v (0 ∷ 0 ∷ []) (λ e. omega arith) in
+          let y : getD (set r k v) j blank ≡ getD r j blank = getD-set-other r k j v blank (λ e. omega arith) in
           let z : getD (done ++ cur ∷ []) j [] ≡ getD done j [] = List·getD-append done (cur ∷ []) [] j b in
           rw (y, z) (a j b there)
 
+-- the next argument is noted, and was not put in place
+unplaced-set : (r : List (List ℕ)) (k from to : ℕ) → Unplaced r k → Unplaced (set r k (from ∷ to ∷ 1 ∷ 0 ∷ [])) (k + 1)
+unplaced-set r k from to u j h l = go (eq-or-lt-of-le below)
+  where
+    blank : List ℕ
+    blank = 0 ∷ 0 ∷ 0 ∷ 0 ∷ []
+
+    v : List ℕ
+    v = from ∷ to ∷ 1 ∷ 0 ∷ []
+
+    below : j ≤ k
+    below = omega arith
+
+    there : j < length r
+    there = omega (arith, length-set r k v)
+
+    go : (j ≡ k) ⊎ (j < k) → placedTo (set r k v) j < placedFrom (set r k v) j
+    go (inl e) =
+        let y : getD (set r k v) j blank ≡ v = rw e (getD-set-same r k v blank (omega (arith, there))) in
+        rw y (omega arith)
+    go (inr b) =
+        let y : getD (set r k v) j blank ≡ getD r j blank = getD-set-other r k j v blank (λ e. omega arith) in
+        rw y (u j b there)
+
 -- the list whole: its last argument is the one that was being read
 lists-whole : (done : List (List Pending)) (cur : List Pending) {g : Args} {f : ℕ → List Pending} {last : ℕ} {r : List (List ℕ)} {c e : ℕ}
-    → g ≡ gathered done cur (args [] [] (f e)) → c ≡ length (done ++ cur ∷ []) → Ranged f last r (done ++ cur ∷ []) → e ≤ last → Lists g f last r c e
-lists-whole [] cur {f = f} {e = e} p q a w =
+    → g ≡ gathered done cur (args [] [] (f e)) → c ≡ length (done ++ cur ∷ []) → Ranged f last r (done ++ cur ∷ []) → Unplaced r c → e ≤ last → Lists g f last r c e
+lists-whole [] cur {f = f} {e = e} p q a u w =
     record {
       first = cur;
       others = [];
       shape = p ∙ ap (λ (z : List Pending). args z [] (f e)) (append-nil cur);
       count = q;
       ranged = a;
+      unplaced = u;
       within = w;
     }
-lists-whole (d ∷ ds) cur {f = f} {e = e} p q a w =
+lists-whole (d ∷ ds) cur {f = f} {e = e} p q a u w =
     record {
       first = d;
       others = ds ++ cur ∷ [];
       shape = p ∙ ap (λ (z : List Pending). args d (ds ++ z ∷ []) (f e)) (append-nil cur);
       count = q;
       ranged = a;
+      unplaced = u;
       within = w;
     }
 
@@ -141,6 +170,7 @@ pub record Collecting (f : ℕ → List Pending) (last at : ℕ) (r₀ r : List 
   pub spans : Spans f from i current
   pub count : k ≡ length done
   pub ranged : Ranged f last r done
+  pub unplaced : Unplaced r k
   pub deep : depth + at ≤ i
   pub many : k + at ≤ i
   pub within : i ≤ last
@@ -157,6 +187,7 @@ collect-first {f} {at = at} h =
       spans = none;
       count = refl;
       ranged = λ j l. absurd (not-suc-le-zero l);
+      unplaced = λ j l. absurd (not-suc-le-zero l);
       deep = omega arith;
       many = omega arith;
       within = h;
@@ -211,6 +242,7 @@ module _ {f : ℕ → List Pending} {last at : ℕ} {r₀ r : List (List ℕ)} {
               spans = spans-snoc (a .spans) z;
               count = a .count;
               ranged = a .ranged;
+              unplaced = a .unplaced;
               deep = omega (arith, a .deep, z .past, y .1);
               many = omega (arith, a .many, z .past);
               within = z .within;
@@ -222,11 +254,14 @@ module _ {f : ℕ → List Pending} {last at : ℕ} {r₀ r : List (List ℕ)} {
         collect-fail {x} {y} e = collect-after (fail x y) (collect-seen .tokens) (moved-as e) ∙ gathered-bad (a .done) (a .current) x y
 
         -- the range of the argument is noted
-        module _ {r′ : List (List ℕ)} (v : r′ ≡ set r k (from ∷ i ∷ [])) where
+        module _ {r′ : List (List ℕ)} (v : r′ ≡ set r k (from ∷ i ∷ 1 ∷ 0 ∷ [])) where
           noted : Ranged f last r′ (a .done ++ a .current ∷ [])
           noted =
               subst (λ (x : List (List ℕ)). Ranged f last x (a .done ++ a .current ∷ [])) (sym v)
               (ranged-set r (a .done) k from i (a .current) (a .ranged) (a .count) (a .spans) (a .within))
+
+          still : Unplaced r′ (k + 1)
+          still = subst (λ (x : List (List ℕ)). Unplaced x (k + 1)) (sym v) (unplaced-set r k from i (a .unplaced))
 
           counted : k + 1 ≡ length (a .done ++ a .current ∷ [])
           counted = rw length-append (omega (arith, a .count))
@@ -246,14 +281,15 @@ module _ {f : ℕ → List Pending} {last at : ℕ} {r₀ r : List (List ℕ)} {
                 spans = none;
                 count = counted;
                 ranged = noted;
+                unplaced = still;
                 deep = omega (arith, a .deep, z .past);
                 many = omega (arith, a .many, z .past);
                 within = z .within;
-                same-ranges = ap length v ∙ (length-set r k (from ∷ i ∷ []) ∙ a .same-ranges);
+                same-ranges = ap length v ∙ (length-set r k (from ∷ i ∷ 1 ∷ 0 ∷ []) ∙ a .same-ranges);
                 same-stack = l ∙ a .same-stack;
               }
 
           pub collect-close : m ≡ move.Close → Lists (collect (f at) []) f last r′ (k + 1) (t .next)
           collect-close e =
               let z = collect-seen in
-              lists-whole (a .done) (a .current) (collect-after close (z .tokens) (moved-as e)) counted noted (z .within)
+              lists-whole (a .done) (a .current) (collect-after close (z .tokens) (moved-as e)) counted noted still (z .within)

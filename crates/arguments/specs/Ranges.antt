@@ -12,15 +12,25 @@ use Rattle.arguments.specs.declared.Sought.{Sought}
 use Rattle.arguments.specs.declared.Sought.the-variants as sought
 use Rattle.arguments.specs.Arguments.{Args, bad, args, seek, collect}
 
--- range k of r
+-- range k of r: where argument k stands in its list, and in the replacement
 abbrev pub rangeOf : List (List ℕ) → ℕ → List ℕ
-rangeOf r k = getD r k (0 ∷ 0 ∷ [])
+rangeOf r k = getD r k (0 ∷ 0 ∷ 0 ∷ 0 ∷ [])
 
 abbrev pub rangeFrom : List (List ℕ) → ℕ → ℕ
 rangeFrom r k = getD (rangeOf r k) 0 0
 
 abbrev pub rangeTo : List (List ℕ) → ℕ → ℕ
 rangeTo r k = getD (rangeOf r k) 1 0
+
+abbrev pub placedFrom : List (List ℕ) → ℕ → ℕ
+placedFrom r k = getD (rangeOf r k) 2 0
+
+abbrev pub placedTo : List (List ℕ) → ℕ → ℕ
+placedTo r k = getD (rangeOf r k) 3 0
+
+-- none of the first c arguments was put in place
+abbrev pub Unplaced : List (List ℕ) → ℕ → Type 0
+Unplaced r c = (k : ℕ) → k < c → k < length r → placedTo r k < placedFrom r k
 
 -- argument k stands in range k of r, as far as there are ranges
 abbrev pub Ranged : (ℕ → List Pending) → ℕ → List (List ℕ) → List (List Pending) → Type 0
@@ -39,6 +49,7 @@ pub record Lists (g : Args) (f : ℕ → List Pending) (last : ℕ) (r : List (L
   pub shape : g ≡ args first others (f e)
   pub count : c ≡ length (first ∷ others)
   pub ranged : Ranged f last r (first ∷ others)
+  pub unplaced : Unplaced r c
   pub within : e ≤ last
 
 abbrev pub SoughtBy : Sought → Args → (ℕ → List Pending) → ℕ → List (List ℕ) → Type 0

@@ -1,5 +1,5 @@
-// Argument lists (document 01, "Replacing"): sought in the pending list, or in the file for the first usage; each argument a
-// range of positions there.
+// Argument lists (document 01, "Replacing"): sought in the pending list, or in the file for the first usage. An argument is four
+// numbers: from where to before where it stands there, and in the replacement; `1, 0` as long as it was not put in place.
 ghost use mathlib.Core.Path.{_≡_};
 ghost use mathlib.Core.List.{[], _∷_};
 ghost use Prim.Native.Nat.{_*_, _<_, _≤_};
@@ -135,12 +135,12 @@ fn open_at<'a>(
     }
 }
 
-// Notes the range of argument `k`, if there is one for it.
-fn note(ranges: &mut [[usize; 2]], k: usize, from: usize, to: usize)
-    ensures { λ _. ⌜ now (ranges .exit) ≡ set (now (ranges .entry)) k (from ∷ to ∷ []) ⌝ }
+// Notes the range of argument `k`, which was not put in place yet, if there is one for it.
+fn note(ranges: &mut [[usize; 4]], k: usize, from: usize, to: usize)
+    ensures { λ _. ⌜ now (ranges .exit) ≡ set (now (ranges .entry)) k (from ∷ to ∷ 1 ∷ 0 ∷ []) ⌝ }
 {
     if k < ranges.len() {
-        ranges[k] = [from, to];
+        ranges[k] = [from, to, 1, 0];
     }
 }
 
@@ -152,7 +152,7 @@ fn list_at<'a>(
     n: usize,
     file: bool,
     at: usize,
-    ranges: &mut [[usize; 2]],
+    ranges: &mut [[usize; 4]],
     stack: &mut [u8],
 ) -> Sought
     requires { ⌜ Listable (now s) (now list) n (lastOf (now s) n file) at (now stack) ⌝ }
@@ -204,7 +204,7 @@ pub fn seek_list<'a>(
     n: usize,
     file: bool,
     at: usize,
-    ranges: &mut [[usize; 2]],
+    ranges: &mut [[usize; 4]],
     stack: &mut [u8],
 ) -> Sought
     requires { ⌜ Listable (now s) (now list) n (lastOf (now s) n file) at (now stack) ⌝ }

@@ -80,7 +80,7 @@ bars-bad (x ∷ fs) ps k p z e = ap (accepted (x ∷ fs)) e
 module _ {f : ℕ → List Pending} {last : ℕ} {ranges : List (List ℕ)} where
   -- a macro without formals seeks none
   pub accepts-none : (fs : List Parameter) (at : ℕ) → length fs ≡ 0 → at ≤ last → Accepts (listFor fs (f at)) f last ranges 0 at
-  accepts-none [] at e h = record { arguments = []; shape = refl; count = refl; ranged = λ k a g. absurd (omega arith); within = h }
+  accepts-none [] at e h = record { arguments = []; shape = refl; count = refl; ranged = λ k a g. absurd (omega arith); unplaced = λ k a g. absurd (omega arith); within = h }
   accepts-none (p ∷ fs) at e h = absurd (omega arith)
 
   -- the list was found
@@ -94,6 +94,7 @@ module _ {f : ℕ → List Pending} {last : ℕ} {ranges : List (List ℕ)} wher
         shape = ap (accepted (p ∷ fs)) (l .shape) ∙ ap (λ (x : Bool). cond x (listed (l .first ∷ l .others) (f e)) (barred 15 0)) y;
         count = l .count;
         ranged = l .ranged;
+        unplaced = l .unplaced;
         within = l .within;
       }
 

@@ -173,6 +173,7 @@ module _ {ms : List Macro} {b : List ℕ} {r : List (List ℕ)} {n : ℕ} (h : H
               macro-in = lies;
               count = list-accepted .count;
               ranged = list-accepted .ranged;
+              unplaced = list-accepted .unplaced;
             }
 
         -- .. and the answer u to the text put in

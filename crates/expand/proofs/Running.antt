@@ -412,6 +412,7 @@ module _ (s w b : List ℕ) (at : ℕ) (records : List (List ℕ)) (macros : ℕ
           macro-in = held (m .macros) (m .holds);
           count = g .count;
           ranged = g .ranged;
+          unplaced = g .unplaced;
         }
 
     module _ {put-set : List ℕ} (none-too : put-set ≡ []) (t : Turn) (l′ : List (List ℕ)) (limit : ℕ) (z : Stand)

@@ -16,7 +16,7 @@ use Rattle.writing.specs.Buffers.{roomOf, spotAfter}
 use Rattle.writing.specs.declared.Spot.{Spot}
 use Rattle.pending.specs.Pending.{Pending}
 use Rattle.pending.specs.References.{stacked}
-use Rattle.arguments.specs.Ranges.{Ranged}
+use Rattle.arguments.specs.Ranges.{Ranged, Unplaced}
 use Rattle.arguments.specs.declared.Sought.{Sought}
 use Rattle.arguments.specs.declared.Sought.the-variants as sought
 use Rattle.packed.specs.declared.Record.{Record}
@@ -68,6 +68,7 @@ pub record Accepts (g : Listed) (f : ℕ → List Pending) (last : ℕ) (ranges 
   pub shape : g ≡ listed arguments (f e)
   pub count : c ≡ length arguments
   pub ranged : Ranged f last ranges arguments
+  pub unplaced : Unplaced ranges c
   pub within : e ≤ last
 
 abbrev pub AcceptedBy : Sought → Listed → (ℕ → List Pending) → ℕ → List (List ℕ) → Type 0

@@ -3,7 +3,7 @@
 ghost use mathlib.Core.Path.{_≡_};
 ghost use mathlib.Core.Bool.{true, false, cond};
 ghost use mathlib.Core.List.{List, [], _∷_, _++_};
-ghost use Prim.Native.Nat.{ℕ, max, _+_, _-_, _<_, _≤_};
+ghost use Prim.Native.Nat.{ℕ, _+_, _-_, _<_, _≤_};
 ghost use lib.Dec.{eqb};
 ghost use lib.ListN.{length};
 ghost use Rattle.text.specs.Bytes.{part};
@@ -42,6 +42,7 @@ use pending::bytes_at;
 use pending::name_of;
 use pending::pend_of;
 use replace::is_enough;
+use replace::larger;
 use replace::push_text;
 use replace::stack_on;
 use sets::MacroSet;
@@ -218,7 +219,7 @@ fn resolve(b: &[u8], records: &[[u32; 4]], macros: usize, w: &[u8], set: MacroSe
 }
 
 // The list of a usage of the macro `q`, if it has formals: 14, 15.
-fn accept<'a>(
+pub fn accept<'a>(
     s: &'a [u8],
     b: &'a [u8],
     q: Record,
@@ -226,7 +227,7 @@ fn accept<'a>(
     n: usize,
     file: bool,
     at: usize,
-    ranges: &mut [[usize; 2]],
+    ranges: &mut [[usize; 4]],
     stack: &mut [u8],
 ) -> Sought
     requires { ⌜ (length (now b) ≤ 65536) × Small q × Listable (now s) (now list) n (lastOf (now s) n file) at (now stack) ⌝ }
@@ -247,12 +248,6 @@ fn accept<'a>(
         }
         Sought::Refused(k, p) => Sought::Refused(k, p),
     }
-}
-
-fn larger(a: usize, b: usize) -> usize
-    ensures { λ r. ⌜ r ≡ max a b ⌝ }
-{
-    if a < b { b } else { a }
 }
 
 // The stand with `n` pending tokens after a replacement, whose sets have at most `d` members.
@@ -279,7 +274,7 @@ fn put_in<'a>(
     n: usize,
     file: bool,
     base: usize,
-    ranges: &[[usize; 2]],
+    ranges: &mut [[usize; 4]],
     given: usize,
     set: MacroSet,
     limit: usize,
@@ -327,7 +322,7 @@ fn replace_top<'a>(
     list: &mut [[u64; 9]],
     n: usize,
     out: &mut [[u64; 9]],
-    ranges: &mut [[usize; 2]],
+    ranges: &mut [[usize; 4]],
     stack: &mut [u8],
     z: Stand,
 ) -> Turn
@@ -365,7 +360,7 @@ fn replace_top<'a>(
     }
 }
 
-fn is_usage<'a>(s: &'a [u8], b: &'a [u8], p: Pend) -> bool
+pub fn is_usage<'a>(s: &'a [u8], b: &'a [u8], p: Pend) -> bool
     ensures { λ r. ⌜ r ≡ isCall (view (pendingBy (now (s .entry)) (now (b .entry)) p)) ⌝ }
 {
     if p.kind != GRAVE {
@@ -399,7 +394,7 @@ fn step<'a>(
     limit: usize,
     list: &mut [[u64; 9]],
     out: &mut [[u64; 9]],
-    ranges: &mut [[usize; 2]],
+    ranges: &mut [[usize; 4]],
     stack: &mut [u8],
     work: &mut [u8],
     text: &mut [u8],
@@ -465,7 +460,7 @@ fn run<'a>(
     next: usize,
     list: &mut [[u64; 9]],
     out: &mut [[u64; 9]],
-    ranges: &mut [[usize; 2]],
+    ranges: &mut [[usize; 4]],
     stack: &mut [u8],
     work: &mut [u8],
     text: &mut [u8],
@@ -521,7 +516,7 @@ pub fn expand<'a>(
     limit: usize,
     list: &mut [[u64; 9]],
     out: &mut [[u64; 9]],
-    ranges: &mut [[usize; 2]],
+    ranges: &mut [[usize; 4]],
     stack: &mut [u8],
     work: &mut [u8],
     text: &mut [u8],

@@ -134,7 +134,7 @@ fn run_usage<'a>(
     }
     let mut list = [[0u64; 9]; 1024];
     let mut out = [[0u64; 9]; 1024];
-    let mut ranges = [[0usize; 2]; 256];
+    let mut ranges = [[0usize; 4]; 256];
     let mut stack = [0u8; 16384];
     let t = token_at(f, 0, in_file());
     let z = Stand {

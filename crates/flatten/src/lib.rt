@@ -129,7 +129,7 @@ fn run(
     let mut conds = [[0usize; 6]; 32];
     let mut list = [[0u64; 9]; 1024];
     let mut out = [[0u64; 9]; 1024];
-    let mut ranges = [[0usize; 2]; 256];
+    let mut ranges = [[0usize; 4]; 256];
     let mut stack = [0u8; 16384];
     let mut work = [0u8; 65539];
     let mut quoted = [0u8; 257];

@@ -37,9 +37,10 @@ pub fn keep(
     let f = form_at(d, s, t.end);
     match f {
         Form::Formed(v, e) => {
+            let x = set_by(v, set, c);
             let r = write_whole(part_of(s, t.at, e), place, 1, text, map, z);
             match r {
-                Wrote::Upto(y) => Kept::To(set_by(v, set, c), y, e),
+                Wrote::Upto(y) => Kept::To(x, y, e),
                 Wrote::Full(k) => Kept::Refused(k, t.at),
             }
         }

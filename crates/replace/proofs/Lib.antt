@@ -5,3 +5,5 @@ pub mod Formals
 pub mod Values
 pub mod Stacking
 pub mod Texts
+pub mod Again
+pub mod Ready

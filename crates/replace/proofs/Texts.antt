@@ -139,6 +139,13 @@ module _ (set : List ℕ) (w : List ℕ) (t : Token) where
     image-at k f d rest h e l q =
         image-named h ∙ ap (λ (v : Option (List Pending)). instead v (textToken w set t)) (value-at set fs xs (nameOf w t) k f d rest e l q)
 
+-- what holds of any formal holds of the one of that name
+pub at-formal : {A : Type 0} (b : List ℕ) (fs : List Parameter) (u : List ℕ) (v : Which) → WhichIs b fs u v → v .number < length fs
+    → ((f : List ℕ) (d : Option (List ℕ)) (rest : List Parameter) → FormalsAt b (v .at) (parameter f d ∷ rest) → A) → A
+at-formal b fs u v i l g =
+    let q = formal-at fs (v .number) l in
+    g (q .its-name) (q .its-default) (q .others) (subst (λ (ps : List Parameter). FormalsAt b (v .at) ps) (q .shape) (i .there l))
+
 module _ (s b : List ℕ) (o o′ : List (List ℕ)) (most at : ℕ) where
   -- a formal's name gives way to its value
   pub image-value : (r : Pushed) (set : List ℕ) (w : List ℕ) (t : Token) (fs : List Parameter) (xs : List (List Pending)) (u : List ℕ) (v : Which)
@@ -169,8 +176,8 @@ part-short b w base e =
     let l : length w ≡ length (part b base (base + length w)) = ap (λ (v : List ℕ). length v) e in
     omega (arith, length-take (base + length w - base) (drop base b), length-drop base b)
 
-pub stored-fits : {l : List (List ℕ)} {n : ℕ} {r : List (List ℕ)} {b : List ℕ} {first count base : ℕ} {w : List ℕ} {t : Token} {o : List (List ℕ)} {most at : ℕ}
-    → Images l n r b first count base w t o most at
+pub stored-fits : {l : List (List ℕ)} {n : ℕ} {r : List (List ℕ)} {given : ℕ} {b : List ℕ} {first count base : ℕ} {w : List ℕ} {t : Token} {o : List (List ℕ)} {most at : ℕ}
+    → Images l n r given b first count base w t o most at
     → (base ≤ 17179869184) × (t .at ≤ 17179869184) × (t .from ≤ 17179869184) × (t .end ≤ 17179869184)
 stored-fits {b = b} {base = base} {w = w} h = let z : length w ≤ length b = part-short b w base (h .part-is) in omega arith
 

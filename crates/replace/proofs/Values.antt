@@ -200,13 +200,13 @@ tidied-at [] k h = absurd (not-suc-le-zero h)
 tidied-at (a ∷ xs) zero h = refl
 tidied-at (a ∷ xs) (suc k) h = tidied-at xs k (le-of-suc-le-suc h)
 
-any-default : {A : Type 0} (l : List A) (i : ℕ) (d e : A) → i < length l → getD l i d ≡ getD l i e
+pub any-default : {A : Type 0} (l : List A) (i : ℕ) (d e : A) → i < length l → getD l i d ≡ getD l i e
 any-default l i d e h = cc (drop-cons l i d h, drop-cons l i e h)
 
 -- where argument k stands
 pub ranged-at : {f : ℕ → List Pending} {last : ℕ} (r : List (List ℕ)) (xs : List (List Pending)) → Ranged f last r xs → (k : ℕ) → k < length xs → k < length r
     → Spans f (getD (getD r k []) 0 0) (getD (getD r k []) 1 0) (getD xs k []) × (getD (getD r k []) 1 0 ≤ last)
-ranged-at r xs g k h l = rw (any-default r k [] (0 ∷ 0 ∷ []) l) (g k h l)
+ranged-at r xs g k h l = rw (any-default r k [] (0 ∷ 0 ∷ 0 ∷ 0 ∷ []) l) (g k h l)
 
 -- none is given
 pub given-none : {s b : List ℕ} {o : List (List ℕ)} {most at : ℕ} (xs : List (List Pending)) (k : ℕ) → Takes o most at → length xs ≤ k

@@ -3,20 +3,20 @@ ghost use mathlib.Core.Path.{_≡_};
 ghost use mathlib.Core.Bool.{Bool, _&&_};
 ghost use mathlib.Core.Option.{Option};
 ghost use mathlib.Core.List.{List, [], _∷_};
-ghost use Prim.Native.Nat.{ℕ, max, _+_, _<_, _≤_};
-ghost use lib.ListN.{length, getD};
+ghost use Prim.Native.Nat.{ℕ, max, _+_, _-_, _<_, _≤_};
+ghost use lib.ListN.{length, take, drop, getD};
 ghost use Rattle.text.specs.Bytes.{part};
 ghost use Rattle.lex.specs.Tokens.{inFile, tokens};
 ghost use Rattle.definition.specs.Definitions.{Parameter, parameter};
 ghost use Rattle.sets.specs.Sets.{members};
 ghost use Rattle.pending.specs.Pending.{Pending, textToken, textTokens};
-ghost use Rattle.pending.specs.References.{pendOf};
+ghost use Rattle.pending.specs.References.{pendOf, pendings};
 ghost use Rattle.pending.specs.Sources.{itemsFrom, lastOf, itemOf, Spans};
 ghost use Rattle.pending.specs.Adding.{Takes, AddsBy};
 ghost use Rattle.arguments.specs.Ranges.{Ranged};
 ghost use Rattle.replace.specs.Tidying.{isBackslash, beforeNewline, cleanedAll, dropLeft, tidy, tidyAll, Trims};
 ghost use Rattle.replace.specs.Replacing.{enough, fallback, orElse, imageIn, textWith};
-ghost use Rattle.replace.specs.Placing.{FormalsAt, MacroIn, UsageIn, Small, WhichIs, Stacks, storedRef, Images};
+ghost use Rattle.replace.specs.Placing.{FormalsAt, MacroIn, UsageIn, Small, WhichIs, Stacks, storedRef, PlacedBefore, Ready, ReadyBy, Images};
 use genuine::formal_end;
 use genuine::formal_name;
 use genuine::mark_at;
@@ -234,7 +234,7 @@ fn formal_of(b: &[u8], at: usize, count: usize, w: &[u8]) -> Which
 }
 
 // The reference of a token of the part of the macro bytes that starts at `base`.
-fn stored_ref(base: usize, t: Token, set: MacroSet) -> Pend
+pub fn stored_ref(base: usize, t: Token, set: MacroSet) -> Pend
     requires { ⌜ (base ≤ 17179869184) × (t .at ≤ 17179869184) × (t .from ≤ 17179869184) × (t .end ≤ 17179869184) ⌝ }
     ensures { λ r. ⌜ r ≡ storedRef base t set ⌝ }
 {
@@ -297,28 +297,62 @@ fn push_fallback(
     push_default(b, m + 3, formal_end(b, at), set, out, most, n)
 }
 
-// Adds argument `k` of the `given`, if it is one of them.
+// Adds the references from `from` to before `to` of `out` once more.
+fn push_again(out: &mut [[u64; 9]], from: usize, to: usize, most: usize, at: usize) -> Pushed
+    requires { ⌜ (to ≤ at) × Takes (now out) most at ⌝ }
+    ensures { λ r. ⌜ ((s b : List ℕ) → AddsBy r s b (now (out .entry)) (now (out .exit)) most at (take (to - from) (drop from (pendings s b (take at (now (out .entry))))))) ⌝ }
+{
+    let mut i = from;
+    let mut k = at;
+    while i < to {
+        let p = pend_of(out[i]);
+        let r = push(out, most, k, p);
+        match r {
+            Pushed::Upto(m) => {
+                k = m;
+                i += 1;
+                continue;
+            }
+            Pushed::Full => {
+                return Pushed::Full;
+            }
+        }
+    }
+    Pushed::Upto(k)
+}
+
+// Adds argument `k` of the `given`, if it is one of them: read the first time, then copied from where it was put.
 fn push_given<'a>(
     s: &'a [u8],
     b: &'a [u8],
     list: &[[u64; 9]],
     n: usize,
     file: bool,
-    ranges: &[[usize; 2]],
+    ranges: &mut [[usize; 4]],
     given: usize,
     k: usize,
     out: &mut [[u64; 9]],
     most: usize,
     at: usize,
 ) -> Pushed
-    requires { ⌜ (n ≤ length (now list)) × (k < length (now ranges)) × Takes (now out) most at ⌝ }
-    ensures { λ r. ⌜ ((xs : List (List Pending)) → given ≡ length xs → Ranged (itemsFrom (now (s .entry)) (now (b .entry)) (now (list .entry)) n file) (lastOf (now (s .entry)) n file) (now (ranges .entry)) xs → AddsBy r (now (s .entry)) (now (b .entry)) (now (out .entry)) (now (out .exit)) most at (getD (tidyAll xs) k [])) ⌝ }
+    requires { ⌜ (n ≤ length (now list)) × (k < length (now ranges)) × PlacedBefore (now ranges) given at × Takes (now out) most at ⌝ }
+    ensures { λ r. ⌜ ((xs : List (List Pending)) → given ≡ length xs → Ready (itemsFrom (now (s .entry)) (now (b .entry)) (now (list .entry)) n file) (lastOf (now (s .entry)) n file) (now (ranges .entry)) xs (pendings (now (s .entry)) (now (b .entry)) (take at (now (out .entry)))) → AddsBy r (now (s .entry)) (now (b .entry)) (now (out .entry)) (now (out .exit)) most at (getD (tidyAll xs) k []) × ReadyBy r (now (s .entry)) (now (b .entry)) (itemsFrom (now (s .entry)) (now (b .entry)) (now (list .entry)) n file) (lastOf (now (s .entry)) n file) (now (out .exit)) (now (ranges .exit)) xs) ⌝ }
 {
     if given <= k {
         return Pushed::Upto(at);
     }
     let v = ranges[k];
-    push_argument(s, b, list, n, file, v[0], v[1], out, most, at)
+    if v[2] <= v[3] {
+        return push_again(out, v[2], v[3], most, at);
+    }
+    let r = push_argument(s, b, list, n, file, v[0], v[1], out, most, at);
+    match r {
+        Pushed::Upto(m) => {
+            ranges[k] = [v[0], v[1], at, m];
+            Pushed::Upto(m)
+        }
+        Pushed::Full => Pushed::Full,
+    }
 }
 
 // Adds what takes the place of formal `k`, whose form starts at `form`.
@@ -328,7 +362,7 @@ fn push_value<'a>(
     list: &[[u64; 9]],
     n: usize,
     file: bool,
-    ranges: &[[usize; 2]],
+    ranges: &mut [[usize; 4]],
     given: usize,
     k: usize,
     form: usize,
@@ -337,8 +371,8 @@ fn push_value<'a>(
     most: usize,
     at: usize,
 ) -> Pushed
-    requires { ⌜ (n ≤ length (now list)) × (k < length (now ranges)) × (length (now b) ≤ 65536) × (form ≤ 17179869184) × Takes (now out) most at ⌝ }
-    ensures { λ r. ⌜ ((xs : List (List Pending)) (f : List ℕ) (d : Option (List ℕ)) (fs : List Parameter) → FormalsAt (now (b .entry)) form (parameter f d ∷ fs) → given ≡ length xs → Ranged (itemsFrom (now (s .entry)) (now (b .entry)) (now (list .entry)) n file) (lastOf (now (s .entry)) n file) (now (ranges .entry)) xs → AddsBy r (now (s .entry)) (now (b .entry)) (now (out .entry)) (now (out .exit)) most at (orElse (members set) d (getD (tidyAll xs) k []))) ⌝ }
+    requires { ⌜ (n ≤ length (now list)) × (k < length (now ranges)) × PlacedBefore (now ranges) given at × (length (now b) ≤ 65536) × (form ≤ 17179869184) × Takes (now out) most at ⌝ }
+    ensures { λ r. ⌜ ((xs : List (List Pending)) (f : List ℕ) (d : Option (List ℕ)) (fs : List Parameter) → FormalsAt (now (b .entry)) form (parameter f d ∷ fs) → given ≡ length xs → Ready (itemsFrom (now (s .entry)) (now (b .entry)) (now (list .entry)) n file) (lastOf (now (s .entry)) n file) (now (ranges .entry)) xs (pendings (now (s .entry)) (now (b .entry)) (take at (now (out .entry)))) → AddsBy r (now (s .entry)) (now (b .entry)) (now (out .entry)) (now (out .exit)) most at (orElse (members set) d (getD (tidyAll xs) k [])) × ReadyBy r (now (s .entry)) (now (b .entry)) (itemsFrom (now (s .entry)) (now (b .entry)) (now (list .entry)) n file) (lastOf (now (s .entry)) n file) (now (out .exit)) (now (ranges .exit)) xs) ⌝ }
 {
     let r = push_given(s, b, list, n, file, ranges, given, k, out, most, at);
     match r {
@@ -359,7 +393,7 @@ fn push_image<'a>(
     list: &[[u64; 9]],
     n: usize,
     file: bool,
-    ranges: &[[usize; 2]],
+    ranges: &mut [[usize; 4]],
     given: usize,
     first: usize,
     count: usize,
@@ -371,8 +405,8 @@ fn push_image<'a>(
     most: usize,
     at: usize,
 ) -> Pushed
-    requires { ⌜ Images (now list) n (now ranges) (now b) first count base (now w) t (now out) most at ⌝ }
-    ensures { λ r. ⌜ ((xs : List (List Pending)) (fs : List Parameter) → FormalsAt (now (b .entry)) first fs → count ≡ length fs → given ≡ length xs → Ranged (itemsFrom (now (s .entry)) (now (b .entry)) (now (list .entry)) n file) (lastOf (now (s .entry)) n file) (now (ranges .entry)) xs → AddsBy r (now (s .entry)) (now (b .entry)) (now (out .entry)) (now (out .exit)) most at (imageIn (members set) fs (tidyAll xs) (textToken (now (w .entry)) (members set) t))) ⌝ }
+    requires { ⌜ Images (now list) n (now ranges) given (now b) first count base (now w) t (now out) most at ⌝ }
+    ensures { λ r. ⌜ ((xs : List (List Pending)) (fs : List Parameter) → FormalsAt (now (b .entry)) first fs → count ≡ length fs → given ≡ length xs → Ready (itemsFrom (now (s .entry)) (now (b .entry)) (now (list .entry)) n file) (lastOf (now (s .entry)) n file) (now (ranges .entry)) xs (pendings (now (s .entry)) (now (b .entry)) (take at (now (out .entry)))) → AddsBy r (now (s .entry)) (now (b .entry)) (now (out .entry)) (now (out .exit)) most at (imageIn (members set) fs (tidyAll xs) (textToken (now (w .entry)) (members set) t)) × ReadyBy r (now (s .entry)) (now (b .entry)) (itemsFrom (now (s .entry)) (now (b .entry)) (now (list .entry)) n file) (lastOf (now (s .entry)) n file) (now (out .exit)) (now (ranges .exit)) xs) ⌝ }
 {
     if (t.kind == NAME) | (t.kind == ESCAPED) {
         let f = formal_of(b, first, count, part_of(w, t.from, t.end));
@@ -406,7 +440,7 @@ pub fn push_text<'a>(
     list: &[[u64; 9]],
     n: usize,
     file: bool,
-    ranges: &[[usize; 2]],
+    ranges: &mut [[usize; 4]],
     given: usize,
     set: MacroSet,
     out: &mut [[u64; 9]],
@@ -456,7 +490,7 @@ pub fn push_text<'a>(
     Pushed::Upto(k)
 }
 
-fn larger(a: usize, b: usize) -> usize
+pub fn larger(a: usize, b: usize) -> usize
     ensures { λ r. ⌜ r ≡ max a b ⌝ }
 {
     if a < b { b } else { a }

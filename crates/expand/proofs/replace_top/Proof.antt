@@ -88,14 +88,14 @@ same-length-4 c = search needs
 
 returns-2 : tie.Need-returns-2
 returns-2 c ms h =
-    let a = c .before .before .before .before .before .before .before .before .before .before .before .before .before .before .before .before .before .before .before .before .before .before .before .before .before .args in
-    let p = c .before .before .before .before .before .before .before .before .before .before .before .before .before .before .before .before .before .before .before .before .before .before .before .before .before .pre .1 in
+    let a = c .before .before .before .before .before .before .before .before .before .before .before .before .before .before .before .before .before .before .before .before .before .before .before .before .before .before .args in
+    let p = c .before .before .before .before .before .before .before .before .before .before .before .before .before .before .before .before .before .before .before .before .before .before .before .before .before .before .pre .1 in
     let f = itemsFrom (a .s .now) (a .b .now) (a .list .now) (a .n) false in
-    let rest = stacked (a .s .now) (a .b .now) (a .list .now) (a .n - c .before .before .before .before .before .before .before .f .given .0 .1 .0) in
-    let ranges = c .before .before .before .before .before .before .before .before .before .before .before .before .accept .last .1 .1 .1 .1 .1 .1 .1 .0 in
-    let e = list-within h (a .w .now) (members (a .set)) (c .before .before .before .before .before .before .before .before .before .before .before .before .before .before .before .before .before .before .before .before .resolve .result) (c .before .before .before .before .before .before .before .before .before .before .before .before .before .before .before .before .before .before .before .before .resolve .ensures ms h) _ (c .before .before .before .before .before .before .before .before .before .before .before .before .before .before .before .before .before .before .c2 .given .1) (p .bytes-small) (c .before .before .before .before .before .before .before .before .before .before .before .before .before .before .before .before .read .ensures) f (a .n) ranges (f 0) (c .before .before .before .before .before .before .before .before .before .before .before .before .accept .result) (c .before .before .before .before .before .before .before .before .before .before .before .before .accept .ensures) _ _ (c .before .before .before .before .before .before .before .f .given .1) in
-    replaced-list (a .s .now) (a .b .now) (a .list .now) (c .before .before .put-in .last .1 .1 .1 .1 .0) (a .n) _ ms (a .w .now) (members (a .set)) (a .limit) (a .z) (c .before .before .put-in .result) e
-    (list-gives h (a .w .now) (members (a .set)) (c .before .before .before .before .before .before .before .before .before .before .before .before .before .before .before .before .before .before .before .before .resolve .result) (c .before .before .before .before .before .before .before .before .before .before .before .before .before .before .before .before .before .before .before .before .resolve .ensures ms h) _ (c .before .before .before .before .before .before .before .before .before .before .before .before .before .before .before .before .before .before .c2 .given .1) (p .bytes-small) (c .before .before .before .before .before .before .before .before .before .before .before .before .before .before .before .before .read .ensures) f (a .n) ranges (f 0) (c .before .before .before .before .before .before .before .before .before .before .before .before .accept .result) (c .before .before .before .before .before .before .before .before .before .before .before .before .accept .ensures) _ _ (c .before .before .before .before .before .before .before .f .given .1) (a .s .now) (c .before .before .put-in .last .1 .1 .1 .1 .0) rest (a .limit) (a .z) (c .before .before .put-in .result) (c .before .before .put-in .ensures))
+    let rest = stacked (a .s .now) (a .b .now) (a .list .now) (a .n - c .before .before .before .before .before .before .before .before .f .given .0 .1 .0) in
+    let ranges = c .before .before .before .before .before .before .before .before .before .before .before .before .before .accept .last .1 .1 .1 .1 .1 .1 .1 .0 in
+    let e = list-within h (a .w .now) (members (a .set)) (c .before .before .before .before .before .before .before .before .before .before .before .before .before .before .before .before .before .before .before .before .before .resolve .result) (c .before .before .before .before .before .before .before .before .before .before .before .before .before .before .before .before .before .before .before .before .before .resolve .ensures ms h) _ (c .before .before .before .before .before .before .before .before .before .before .before .before .before .before .before .before .before .before .before .c2 .given .1) (p .bytes-small) (c .before .before .before .before .before .before .before .before .before .before .before .before .before .before .before .before .before .read .ensures) f (a .n) ranges (f 0) (c .before .before .before .before .before .before .before .before .before .before .before .before .before .accept .result) (c .before .before .before .before .before .before .before .before .before .before .before .before .before .accept .ensures) _ _ (c .before .before .before .before .before .before .before .before .f .given .1) in
+    replaced-list (a .s .now) (a .b .now) (a .list .now) (c .before .before .before .put-in .last .1 .1 .1 .1 .0) (a .n) _ ms (a .w .now) (members (a .set)) (a .limit) (a .z) (c .before .before .before .put-in .result) e
+    (list-gives h (a .w .now) (members (a .set)) (c .before .before .before .before .before .before .before .before .before .before .before .before .before .before .before .before .before .before .before .before .before .resolve .result) (c .before .before .before .before .before .before .before .before .before .before .before .before .before .before .before .before .before .before .before .before .before .resolve .ensures ms h) _ (c .before .before .before .before .before .before .before .before .before .before .before .before .before .before .before .before .before .before .before .c2 .given .1) (p .bytes-small) (c .before .before .before .before .before .before .before .before .before .before .before .before .before .before .before .before .before .read .ensures) f (a .n) ranges (f 0) (c .before .before .before .before .before .before .before .before .before .before .before .before .before .accept .result) (c .before .before .before .before .before .before .before .before .before .before .before .before .before .accept .ensures) _ _ (c .before .before .before .before .before .before .before .before .f .given .1) (a .s .now) (c .before .before .before .put-in .last .1 .1 .1 .1 .0) rest (a .limit) (a .z) (c .before .before .before .put-in .result) (c .before .before .before .put-in .ensures))
 
 same-length-5 : tie.Need-same-length-5
 same-length-5 c = search needs

@@ -74,7 +74,7 @@ expand-requires c κs = (
     stored = c .before .before .before .before .before .before .before .before .before .before .before .before .before .before .before .before .before .before .pre .2;
     list-lent = as-long 1024 _ (length-replicate 1024 (replicate {A = ℕ} 9 0));
     out-lent = as-long 1024 _ (length-replicate 1024 (replicate {A = ℕ} 9 0));
-    ranges-lent = as-long 256 _ (length-replicate 256 (replicate {A = ℕ} 2 0));
+    ranges-lent = as-long 256 _ (length-replicate 256 (replicate {A = ℕ} 4 0));
     brackets-lent = as-long 16384 _ (length-replicate {A = ℕ} 16384 0);
   },
   c .before .before .before .before .before .before .before .before .before .before .before .before .before .before .before .before .before .before .pre .3,

@@ -15,7 +15,7 @@ part-of-requires : tie.Need-part-of-requires
 part-of-requires c κs = search needs
 
 write-whole-requires : tie.Need-write-whole-requires
-write-whole-requires c κs = keep-writable _ (c .before .before .before .before .before .before .before .before .before .before .args .t .at) (c .before .before .before .before .f .given .0 .1 .0) (c .before .before .before .before .before .before .before .before .before .before .pre) (c .before .before .part-of .ensures)
+write-whole-requires c κs = keep-writable _ (c .before .before .before .before .before .before .before .before .before .before .before .args .t .at) (c .before .before .before .before .before .f .given .0 .1 .0) (c .before .before .before .before .before .before .before .before .before .before .before .pre) (c .before .before .part-of .ensures)
 
 enum-known-r : tie.Need-enum-known-r
 enum-known-r c = search needs
@@ -39,7 +39,7 @@ same-length-2 : tie.Need-same-length-2
 same-length-2 c = search needs
 
 returns : tie.Need-returns
-returns c h k = kept-to _ k (c .before .before .before .before .before .before .before .before .before .before .before .before .before .before .before .form-at .ensures) (c .before .before .before .before .before .before .before .before .before .before .before .before .before .f .given .1) (c .before .before .before .before .before .before .before .before .before .before .before .part-of .ensures) _ _ (c .before .before .before .before .before .before .before .before .write-whole .ensures) (c .before .before .r .given .1) (c .set-by .ensures)
+returns c h k = kept-to _ k (c .before .before .before .before .before .before .before .before .before .before .before .before .before .before .before .form-at .ensures) (c .before .before .before .before .before .before .before .before .before .before .before .before .before .f .given .1) (c .before .before .before .before .before .before .before .before .before .before .part-of .ensures) _ _ (c .before .before .before .before .before .before .before .write-whole .ensures) (c .before .r .given .1) (c .before .before .before .before .before .before .before .before .before .before .before .set-by .ensures)
 
 same-length-3 : tie.Need-same-length-3
 same-length-3 c = search needs
@@ -48,7 +48,7 @@ same-length-4 : tie.Need-same-length-4
 same-length-4 c = search needs
 
 returns-2 : tie.Need-returns-2
-returns-2 c h k = kept-full _ k (c .before .before .before .before .before .before .before .before .before .before .before .before .before .before .form-at .ensures) (c .before .before .before .before .before .before .before .before .before .before .before .before .f .given .1) (c .before .before .before .before .before .before .before .before .before .before .part-of .ensures) _ _ (c .before .before .before .before .before .before .before .write-whole .ensures) (c .before .r2 .given .1)
+returns-2 c h k = kept-full _ k (c .before .before .before .before .before .before .before .before .before .before .before .before .before .before .before .form-at .ensures) (c .before .before .before .before .before .before .before .before .before .before .before .before .before .f .given .1) (c .before .before .before .before .before .before .before .before .before .before .part-of .ensures) _ _ (c .before .before .before .before .before .before .before .write-whole .ensures) (c .before .r2 .given .1)
 
 returns-3 : tie.Need-returns-3
 returns-3 c h k = kept-unformed _ k (c .before .before .form-at .ensures) (c .enum-told .given .1)
@@ -62,10 +62,10 @@ keep-spec =
     (tie.spec
     form-at-requires
     enum-known-f
+    set-by-requires
     part-of-requires
     write-whole-requires
     enum-known-r
-    set-by-requires
     enum-known-r-2
     enum-told
     enum-known-f-2

@@ -2,7 +2,8 @@
 use classify::Classified;
 use libc::STDOUT_FILENO;
 
-fn print_number(n: u64) {
+// A space and the number.
+pub fn print_number(n: u64) {
     io::write_all(STDOUT_FILENO, b" ");
     io::print_decimal(STDOUT_FILENO, n);
 }

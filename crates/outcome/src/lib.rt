@@ -1,14 +1,17 @@
 // Flattens and classifies inputs of the printing program's form (document 01) and prints what comes of them: as that
 // program does, or the whole outcome.
+ghost use mathlib.Core.Path.{_≡_};
+ghost use Prim.Native.Nat.{_<_};
 use flatten::Flattened;
 use input::Parsed;
 use libc::STDOUT_FILENO;
+use pass::Answer;
 use report::print_number;
 use settings::Settings;
 use text::part_of;
 
 // What flatten answered; or the input is not of the form.
-pub enum Answer {
+pub enum Handled {
     Flat(Flattened),
     Unformed,
 }
@@ -24,20 +27,20 @@ pub fn flatten_input(
     map: &mut [u32],
     records: &mut [[u32; 4]],
     bytes: &mut [u8],
-) -> Answer {
+) -> Handled {
     if 1000000 < s.len() {
-        return Answer::Unformed;
+        return Handled::Unformed;
     }
     let mut table = [[0u32; 5]; 65];
     let mut starts = [[0u32; 2]; 257];
     let p = input::parse(s, &mut table, &mut starts);
     match p {
-        Parsed::Broken => Answer::Unformed,
+        Parsed::Broken => Handled::Unformed,
         Parsed::Whole(n, m) => {
             let files = &table[0..n];
             let names = &starts[0..m];
             let r = flatten::flatten(s, files, root, names, set, limit, text, map, records, bytes);
-            Answer::Flat(r)
+            Handled::Flat(r)
         }
     }
 }
@@ -145,8 +148,8 @@ pub fn print_input(
     }
     let a = flatten_input(s, 0, 3, 100000, text, map, records, bytes);
     match a {
-        Answer::Unformed => print_refusal(1, 0, 0, 0),
-        Answer::Flat(r) => {
+        Handled::Unformed => print_refusal(1, 0, 0, 0),
+        Handled::Flat(r) => {
             if r.number != 0 {
                 print_refusal(r.number, r.file, r.line, r.byte);
                 return;
@@ -318,7 +321,57 @@ fn print_flattened(r: Flattened, text: &[u8], map: &[u32], records: &[[u32; 4]],
     print_state(r.number, r.settings);
 }
 
-// The whole outcome of flatten and of classify, which reads the text that stands, refused or not. Pass is not there yet.
+fn wide(x: u32) -> usize
+    ensures { λ r. ⌜ (r ≡ x) × (r < 4294967296) ⌝ }
+{
+    x as usize
+}
+
+// The name of macro `i`.
+fn name_of<'a>(records: &[[u32; 4]], bytes: &'a [u8], i: usize) -> &'a [u8] {
+    if records.len() <= i {
+        return part_of(bytes, 0, 0);
+    }
+    let v = records[i];
+    let a = wide(v[0]);
+    part_of(bytes, a, a + wide(v[1]))
+}
+
+// What pass answers on the macros that flatten left: yes, or a refusal and the macro's name; 1 after refusal 1.
+fn print_pass(number: usize, records: &[[u32; 4]], bytes: &[u8]) {
+    if number == 1 {
+        say(b"pass 1\n");
+        return;
+    }
+    let a = pass::pass(bytes, records);
+    match a {
+        Answer::Yes => say(b"pass yes\n"),
+        Answer::Fault(i, n) => {
+            say(b"pass");
+            print_number(n as u64);
+            print_bytes(name_of(records, bytes, i));
+        }
+        Answer::Foreign => say(b"pass 1\n"),
+    }
+}
+
+// The whole outcome: of flatten, of classify, which reads the text that stands, refused or not, and of pass.
+fn print_outcome(
+    r: Flattened,
+    set: u32,
+    text: &[u8],
+    map: &[u32],
+    records: &[[u32; 4]],
+    bytes: &[u8],
+    words: &mut [[u32; 3]],
+) {
+    print_flattened(r, text, map, records, bytes);
+    let c = classify::classify(part_of(text, 0, r.written), set, words);
+    report::print_words(c, words);
+    print_pass(r.number, records, bytes);
+}
+
+// Flattens an input and prints the whole outcome.
 pub fn dump_input(
     s: &[u8],
     root: usize,
@@ -332,12 +385,7 @@ pub fn dump_input(
 ) {
     let a = flatten_input(s, root, set as usize, limit, text, map, records, bytes);
     match a {
-        Answer::Unformed => say(b"format\n"),
-        Answer::Flat(r) => {
-            print_flattened(r, text, map, records, bytes);
-            let c = classify::classify(part_of(text, 0, r.written), set, words);
-            report::print_words(c, words);
-            say(b"pass -\n");
-        }
+        Handled::Unformed => say(b"format\n"),
+        Handled::Flat(r) => print_outcome(r, set, text, map, records, bytes, words),
     }
 }

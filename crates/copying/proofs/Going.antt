@@ -1,21 +1,20 @@
 -- Tokens that are copied or skipped one after the other: where reading stands behind each, and what was written.
 -- Assumes nothing.
 use Prim.Native.Nat.{ℕ, _+_, _-_, _<_, _≤_, min}
-use mathlib.Core.Bool.{Bool, true, false, cond, not, _&&_, _||_, and-false, or-false}
+use mathlib.Core.Bool.{Bool, true, false, cond, not, _&&_, _||_, and-false, or-true, or-false}
 use mathlib.Core.List.{List, [], _∷_, _++_, append-assoc, append-nil}
 use mathlib.Core.Path.{_≡_, refl, sym, ap, _∙_}
 use native.Mathlib.Nat.{add-zero}
 use native.Mathlib.Omega.{arith}
 use lib.Dec.{eqb, leb}
 use lib.ListN.{length, getD, drop, length-take, length-drop}
-use lib.Seq.{drop-cons}
-use borrow.Author.Tests.{eq-eqb, ne-eqb, eqb-true, lt-leb, leb-true, leb-false, not-false}
+use borrow.Author.Tests.{ne-eqb, eqb-true, leb-true, leb-false, not-false}
 use Rattle.text.specs.Bytes.{part}
 use Rattle.lex.specs.Classes.{isWhite}
-use Rattle.lex.specs.Tokens.{White, Newline, LineComment, BlockComment, String, Grave, End, is, inFile, plain, tokenAt}
+use Rattle.lex.specs.Tokens.{White, Newline, LineComment, BlockComment, String, Grave, Byte, End, is, inFile, plain, tokenAt}
 use Rattle.lex.specs.declared.Mode.{Mode}
 use Rattle.lex.specs.declared.Token.{Token}
-use Rattle.lex.proofs.Tests.{by-test, true-false, read-within}
+use Rattle.lex.proofs.Tests.{by-test, true-false}
 use Rattle.lex.proofs.Progress.{token-past, token-ends, token-within, token-at}
 use Rattle.places.specs.Places.{newlines}
 use Rattle.places.proofs.Lines.{newlines-length}
@@ -28,8 +27,9 @@ use Rattle.writing.specs.declared.Wrote.the-variants as wrote
 use Rattle.writing.proofs.Laws.{puts-none, puts-append, puts-text, puts-map}
 use Rattle.copying.specs.declared.Cursor.{Cursor}
 use Rattle.copying.specs.declared.Copied.the-variants as copied
-use Rattle.copying.specs.Cursors.{stopsAt, isGapKind, mayWrap, linesOf, cursorPast}
+use Rattle.copying.specs.Cursors.{stopsAt, isGapKind, isSingle, mayWrap, linesOf, cursorPast}
 use Rattle.copying.specs.Copying.{tokenOn, copyOf, Copies, Skips, Reads, Copyable, CopiesTo, CopiedBy, SkipsTo}
+use Rattle.copying.proofs.Singles.{by-single, white-line, part-one}
 
 -- ---- tests
 
@@ -57,42 +57,11 @@ by-kind P x y z k e = first (eqb k Newline) refl
     first true q = rw (eqb-true k Newline q) x
     first false q = second (eqb k String) refl q
 
--- ---- the token at a white byte or a newline
-
-white-token : (s : List ℕ) (i : ℕ) → isWhite (getD s i 0) ≡ true → tokenAt inFile s i ≡ plain White i (i + 1) 0
-unfolding tokenAt
-white-token s i e =
-    let h : i < length s = read-within (λ b. isWhite b) refl s i e in
-    simp (lt-leb (length s) i h, e)
-
-newline-here : (s : List ℕ) (i : ℕ) → getD s i 0 ≡ 10 → tokenAt inFile s i ≡ plain Newline i (i + 1) 0
-unfolding tokenAt
-newline-here s i e =
-    let h : i < length s = read-within (λ b. eqb b 10) refl s i (eq-eqb _ _ e) in
-    simp (lt-leb (length s) i h, e)
-
-part-one : (s : List ℕ) (i : ℕ) → i < length s → part s i (i + 1) ≡ getD s i 0 ∷ []
-part-one s i h =
-    let z : i + 1 - i ≡ 1 = omega arith in
-    rw (z, drop-cons s i 0 h)
-
--- what holds of both holds of the token at one
-by-byte : (P : Token → Type 0) (s : List ℕ) (i b : ℕ) → b ≡ getD s i 0 → (isWhite b || eqb b 10) ≡ true
-    → P (plain White i (i + 1) 0) → P (plain Newline i (i + 1) 0) → P (tokenAt inFile s i)
-by-byte P s i b q e x y = go (isWhite b) refl
-  where
-    go : (t : Bool) → isWhite b ≡ t → P (tokenAt inFile s i)
-    go true w = rw (white-token s i (rw q at w)) x
-    go false w = rw (newline-here s i (sym q ∙ eqb-true b 10 (rw w at e))) y
-
 -- ---- a token that does not stop
 
 module _ (s : List ℕ) (c : Cursor) where
-  white-goes : isWhite (getD s (c .at) 0) ≡ true → stopsAt (tokenOn s c) ≡ false
-  white-goes e = rw (white-token s (c .at) e)
-
-  newline-goes : getD s (c .at) 0 ≡ 10 → stopsAt (tokenOn s c) ≡ false
-  newline-goes e = rw (newline-here s (c .at) e)
+  single-goes : {x : ℕ} → x ≡ getD s (c .at) 0 → isSingle x ≡ true → stopsAt (tokenOn s c) ≡ false
+  single-goes {x} q e = by-single (λ (t : Token). stopsAt t ≡ false) s (c .at) x q e (λ w. refl) (λ n. refl) (λ w n. refl)
 
   module _ (g : stopsAt (tokenOn s c) ≡ false) where
     goes-inside : c .at < length s
@@ -118,21 +87,33 @@ past-fields : (s : List ℕ) (b : Bool) (t : Token) (c : Cursor) (k e n : ℕ) �
 unfolding cursorPast
 past-fields s b t c k e n p q r = rw (r, p, q)
 
-white-past : (s : List ℕ) (b : Bool) (c : Cursor) → isWhite (getD s (c .at) 0) ≡ true
-    → cursorPast s b (tokenOn s c) c ≡ record { at = c .at + 1; line = c .line; other = c .other; comment = false }
-white-past s b c e =
-    let h : c .at < length s = goes-inside s c (white-goes s c e) in
-    let q : tokenOn s c ≡ plain White (c .at) (c .at + 1) 0 = white-token s (c .at) e in
-    let n : linesOf s (tokenOn s c) ≡ 0 = ap (λ (i : ℕ). newlines (part s i (tokenOn s c .end))) (token-at inFile s (c .at)) ∙ token-flat s (c .at) h (rw q) (rw q) (rw q) (rw q) in
-    past-fields s b (tokenOn s c) c White (c .at + 1) 0 (rw q) (rw q) n ∙ cursor-is refl (add-zero (c .line)) refl (and-false b)
+-- what `past_byte` gives
+abbrev byteBehind : ℕ → Cursor → Cursor
+byteBehind x c =
+    cond (eqb x 10) (record { at = c .at + 1; line = c .line + 1; other = false; comment = false })
+    (record { at = c .at + 1; line = c .line; other = c .other || not (isWhite x); comment = false })
 
-newline-past : (s : List ℕ) (b : Bool) (c : Cursor) → getD s (c .at) 0 ≡ 10
-    → cursorPast s b (tokenOn s c) c ≡ record { at = c .at + 1; line = c .line + 1; other = false; comment = false }
-newline-past s b c e =
-    let h : c .at < length s = goes-inside s c (newline-goes s c e) in
-    let q : tokenOn s c ≡ plain Newline (c .at) (c .at + 1) 0 = newline-here s (c .at) e in
-    let n : linesOf s (tokenOn s c) ≡ 1 = ap (λ (i : ℕ). newlines (part s i (tokenOn s c .end))) (token-at inFile s (c .at)) ∙ newline-token s (c .at) h (rw q) in
-    past-fields s b (tokenOn s c) c Newline (c .at + 1) 1 (rw q) (rw q) n ∙ cursor-is refl refl refl (and-false b)
+module _ (s : List ℕ) (b : Bool) (c : Cursor) (x : ℕ) (p : x ≡ getD s (c .at) 0) (e : isSingle x ≡ true) where
+  single-inside : c .at < length s
+  single-inside = goes-inside s c (single-goes s c p e)
+
+  -- the token is of kind k and holds n newlines
+  kind-past : (k n : ℕ) → tokenOn s c ≡ plain k (c .at) (c .at + 1) 0 → newlines (part s (c .at) (tokenOn s c .end)) ≡ n
+      → cursorPast s b (tokenOn s c) c
+      ≡ record { at = c .at + 1; line = c .line + n; other = cond (eqb k Newline || (eqb k BlockComment && not (eqb n 0))) false (cond (isGapKind k) (c .other) true); comment = b && (eqb k LineComment && eqb (c .at + 1) (length s)) }
+  kind-past k n q l =
+      past-fields s b (tokenOn s c) c k (c .at + 1) n (rw q) (rw q) (ap (λ (i : ℕ). newlines (part s i (tokenOn s c .end))) (token-at inFile s (c .at)) ∙ l)
+
+  single-past : cursorPast s b (tokenOn s c) c ≡ byteBehind x c
+  single-past =
+      by-single (λ (t : Token). tokenOn s c ≡ t → cursorPast s b (tokenOn s c) c ≡ byteBehind x c) s (c .at) x p e
+      (λ w q. kind-past White 0 q (token-flat s (c .at) single-inside (rw q) (rw q) (rw q) (rw q)) ∙ cursor-is refl (add-zero (c .line)) (sym (or-false (c .other))) (and-false b) ∙ white w)
+      (λ n q. kind-past Newline 1 q (newline-token s (c .at) single-inside (rw q)) ∙ cursor-is refl refl refl (and-false b) ∙ rw n)
+      (λ w n q. kind-past Byte 0 q (token-flat s (c .at) single-inside (rw q) (rw q) (rw q) (rw q)) ∙ cursor-is refl (add-zero (c .line)) (sym (or-true (c .other))) (and-false b) ∙ rw (n, w))
+      refl
+    where
+      white : isWhite x ≡ true → record { at = c .at + 1; line = c .line; other = c .other || false; comment = false } ≡ byteBehind x c
+      white w = rw (white-line x w, w)
 
 -- what `past_token` gives: for the token t of the bytes w
 abbrev behind : Token → List ℕ → ℕ → Cursor → Cursor
@@ -226,17 +207,14 @@ copies-snoc : {s : List ℕ} {base : ℕ} {c c₁ : Cursor} {r r₁ r₂ : Room}
 copies-snoc {s} {base} {c} Copies.none g p = rw (append-nil (copyOf s base c)) at (Copies.more g p Copies.none)
 copies-snoc (Copies.more h q k) g p = rw append-assoc (Copies.more h q (copies-snoc k g p))
 
--- what a white byte or a newline writes
-copy-byte : (s : List ℕ) (base : ℕ) (c : Cursor) (b : ℕ) → b ≡ getD s (c .at) 0 → (isWhite b || eqb b 10) ≡ true
+-- what a byte that is a token of its own writes
+copy-byte : (s : List ℕ) (base : ℕ) (c : Cursor) (b : ℕ) → b ≡ getD s (c .at) 0 → isSingle b ≡ true
     → copyOf s base c ≡ placed 1 (base + c .line) (b ∷ [])
 unfolding copyOf
 copy-byte s base c b q e =
-    let h : c .at < length s = read-within (λ b. isWhite b || eqb b 10) refl s (c .at) (rw q at e) in
-    let n : tokenOn s c .end ≡ c .at + 1 = by-byte (λ (t : Token). t .end ≡ c .at + 1) s (c .at) b q e refl refl in
+    let h : c .at < length s = goes-inside s c (single-goes s c q e) in
+    let n : tokenOn s c .end ≡ c .at + 1 = by-single (λ (t : Token). t .end ≡ c .at + 1) s (c .at) b q e (λ w. refl) (λ l. refl) (λ w l. refl) in
     rw (n, part-one s (c .at) h, q)
-
-byte-goes : (s : List ℕ) (c : Cursor) (b : ℕ) → b ≡ getD s (c .at) 0 → (isWhite b || eqb b 10) ≡ true → stopsAt (tokenOn s c) ≡ false
-byte-goes s c b q e = by-byte (λ (t : Token). stopsAt t ≡ false) s (c .at) b q e refl refl
 
 -- nothing is copied yet
 pub copied-none : {s : List ℕ} {base : ℕ} {text map : List ℕ} {c : Cursor} {z : Spot} → Copyable s base text map c z
@@ -276,22 +254,10 @@ pub record Moves (s : List ℕ) (b : Bool) (c c′ : Cursor) : Type 0 where
   pub lands : c′ ≡ cursorPast s b (tokenOn s c) c
 
 module _ {s : List ℕ} {c c′ : Cursor} where
-  pub moves-white : {x : ℕ} {w : Bool} (b : Bool) → x ≡ getD s (c .at) 0 → w ≡ isWhite x → w ≡ true
-      → c′ ≡ record { at = c .at + 1; line = c .line; other = c .other; comment = false } → Moves s b c c′
-  moves-white {x} {w} b p q e r =
-      let h : isWhite (getD s (c .at) 0) ≡ true = rw p at (sym q ∙ e) in
-      record { goes = white-goes s c h; lands = r ∙ sym (white-past s b c h) }
-
-  -- no newline, so a white byte
-  pub moves-other : {x : ℕ} {w : Bool} (b : Bool) → x ≡ getD s (c .at) 0 → w ≡ isWhite x → (w || eqb x 10) ≡ true → (x ≡ 10 → ⊥)
-      → c′ ≡ record { at = c .at + 1; line = c .line; other = c .other; comment = false } → Moves s b c c′
-  moves-other {x} {w} b p q e n r = moves-white b p q (sym (or-false w) ∙ (rw (ne-eqb x 10 n) at e)) r
-
-  pub moves-newline : {x : ℕ} (b : Bool) → x ≡ getD s (c .at) 0 → x ≡ 10
-      → c′ ≡ record { at = c .at + 1; line = c .line + 1; other = false; comment = false } → Moves s b c c′
-  moves-newline b p e r =
-      let h : getD s (c .at) 0 ≡ 10 = sym p ∙ e in
-      record { goes = newline-goes s c h; lands = r ∙ sym (newline-past s b c h) }
+  pub moves-byte : {x : ℕ} {w : Bool} (b : Bool) → x ≡ getD s (c .at) 0 → w ≡ isSingle x → w ≡ true → c′ ≡ byteBehind x c → Moves s b c c′
+  moves-byte {x} b p q e r =
+      let h : isSingle x ≡ true = sym q ∙ e in
+      record { goes = single-goes s c p h; lands = r ∙ sym (single-past s b c x p h) }
 
   module _ {m : Mode} {t : Token} {w : List ℕ} {x : Bool} (p : m ≡ inFile) (q : t ≡ tokenAt m s (c .at)) (y : x ≡ stopsAt t) (n : x ≡ false)
       (e : w ≡ part s (c .at) (t .end)) where
@@ -334,9 +300,9 @@ gone-upto g p q y e = record { skips = g .skips; reads = g .reads; token-is = rw
 -- ---- what the calls of a turn ask
 
 module _ {s : List ℕ} {base : ℕ} {c : Cursor} (r : Reads s base c) where
-  pub byte-small : {x : ℕ} {w : Bool} → x ≡ getD s (c .at) 0 → w ≡ isWhite x → (w || eqb x 10) ≡ true → c .at < 65535
+  pub byte-small : {x : ℕ} {w : Bool} → x ≡ getD s (c .at) 0 → w ≡ isSingle x → w ≡ true → c .at < 65535
   byte-small {x} {w} p q e =
-      let h : c .at < length s = goes-inside s c (byte-goes s c x p (rw q at e)) in
+      let h : c .at < length s = goes-inside s c (single-goes s c p (sym q ∙ e)) in
       omega (arith, r .small)
 
   pub line-fits : c .line ≤ 65536
@@ -353,17 +319,17 @@ module _ {s : List ℕ} {base : ℕ} {text₀ text map₀ map : List ℕ} {c₀ 
       let r = k .copyable .reads in
       record { in-text = k .copyable .in-text; in-map = k .copyable .in-map; in-place = omega (arith, line-fits r, r .place-small) }
 
-  module _ {x : ℕ} {w : Bool} (p : x ≡ getD s (c .at) 0) (q : w ≡ isWhite x) (e : (w || eqb x 10) ≡ true) where
+  module _ {x : ℕ} {w : Bool} (p : x ≡ getD s (c .at) 0) (q : w ≡ isSingle x) (e : w ≡ true) where
     wrote-byte : (o : Wrote) (text′ map′ : List ℕ) → ((step : ℕ) → WroteBy o (placed step (base + c .line) (x ∷ [])) text text′ map map′ z)
         → WroteBy o (copyOf s base c) text text′ map map′ z
-    wrote-byte o text′ map′ h = rw (copy-byte s base c x p (rw q at e)) (h 1)
+    wrote-byte o text′ map′ h = rw (copy-byte s base c x p (sym q ∙ e)) (h 1)
 
     module _ {o : Wrote} {text′ map′ : List ℕ} (h : (step : ℕ) → WroteBy o (placed step (base + c .line) (x ∷ [])) text text′ map map′ z) where
       pub copied-byte : {z′ : Spot} {c′ : Cursor} → o ≡ wrote.Upto z′ → Moves s true c c′ → CopiesTo s base text₀ text′ map₀ map′ c₀ c′ z₀ z′
       copied-byte y m = rw (m .lands) (copied-next k (m .goes) (rw y at (wrote-byte o text′ map′ h)))
 
       pub full-byte : {n : ℕ} → o ≡ wrote.Full n → CopiedBy (copied.Full c z n) s base text₀ text′ map₀ map′ c₀ z₀
-      full-byte y = copied-out k (byte-goes s c x p (rw q at e)) (rw y at (wrote-byte o text′ map′ h))
+      full-byte y = copied-out k (single-goes s c p (sym q ∙ e)) (rw y at (wrote-byte o text′ map′ h))
 
   module _ {m : Mode} {t : Token} {x : Bool} (p : m ≡ inFile) (q : t ≡ tokenAt m s (c .at)) (y : x ≡ stopsAt t) where
     pub copied-upto : x ≡ true → CopiedBy (copied.Upto c z t) s base text₀ text map₀ map c₀ z₀

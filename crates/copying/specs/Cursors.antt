@@ -3,9 +3,10 @@
 use Prim.Native.Nat.{ℕ, _+_}
 use mathlib.Core.Bool.{Bool, true, false, cond, not, _&&_, _||_}
 use mathlib.Core.List.{List}
-use lib.Dec.{eqb}
+use lib.Dec.{eqb, leb}
 use lib.ListN.{length}
 use Rattle.text.specs.Bytes.{part}
+use Rattle.lex.specs.Classes.{isWhite}
 use Rattle.lex.specs.Tokens.{White, Newline, LineComment, BlockComment, String, Grave, End, is}
 use Rattle.lex.specs.declared.Token.{Token}
 use Rattle.places.specs.Places.{newlines}
@@ -26,6 +27,14 @@ isGapKind k = eqb k White || (eqb k LineComment || eqb k BlockComment)
 -- the kinds of tokens that may hold a newline
 abbrev pub mayWrap : ℕ → Bool
 mayWrap k = eqb k Newline || (eqb k String || eqb k BlockComment)
+
+-- `%` and `&`, `(` to `.`, `:` to `@`, `[`, `]` and `^`
+abbrev pub isMark : ℕ → Bool
+isMark b = (leb 37 b && leb b 38) || ((leb 40 b && leb b 46) || ((leb 58 b && leb b 64) || (eqb b 91 || (leb 93 b && leb b 94))))
+
+-- bytes that are always tokens of their own and that nothing bars
+abbrev pub isSingle : ℕ → Bool
+isSingle b = (isWhite b || eqb b 10) || isMark b
 
 -- the newlines of a token
 abbrev pub linesOf : List ℕ → Token → ℕ

@@ -6,11 +6,12 @@ ghost use Prim.Native.Nat.{ℕ, _+_, _<_, _≤_};
 ghost use lib.Dec.{eqb};
 ghost use lib.ListN.{length};
 ghost use lib.Seq.{sets};
+ghost use Rattle.lex.specs.Classes.{isWhite};
 ghost use Rattle.lex.specs.Tokens.{LineComment, String};
 ghost use Rattle.places.specs.Places.{newlines};
 ghost use Rattle.writing.specs.Written.{placed};
 ghost use Rattle.writing.specs.Buffers.{Writable, WroteBy};
-ghost use Rattle.copying.specs.Cursors.{isGapKind, mayWrap, stopsAt};
+ghost use Rattle.copying.specs.Cursors.{isGapKind, isSingle, mayWrap, stopsAt};
 ghost use Rattle.copying.specs.Copying.{Reads, Copyable, CopiedBy, SkipsTo};
 use lex::BLOCK_COMMENT;
 use lex::END;
@@ -70,17 +71,14 @@ fn stops(t: Token) -> bool
     (t.kind == GRAVE) | ((t.kind == END) | (t.bar != 0))
 }
 
-// Behind a white byte.
-fn past_white(c: Cursor) -> Cursor
-    requires { ⌜ c .at < 65535 ⌝ }
-    ensures { λ r. ⌜ r ≡ record { at = c .at + 1; line = c .line; other = c .other; comment = false } ⌝ }
+// A byte that is always a token of its own.
+fn is_single(b: u8) -> bool
+    ensures { λ r. ⌜ r ≡ isSingle b ⌝ }
 {
-    Cursor {
-        at: c.at + 1,
-        line: c.line,
-        other: c.other,
-        comment: false,
-    }
+    (is_white(b) | (b == 10))
+        | (((37 <= b) & (b <= 38))
+            | (((40 <= b) & (b <= 46))
+                | (((58 <= b) & (b <= 64)) | ((b == 91) | ((93 <= b) & (b <= 94))))))
 }
 
 // Behind a token that holds no newline; `last`: where a `//` comment ends the file.
@@ -193,6 +191,22 @@ fn past_newline(c: Cursor) -> Cursor
     }
 }
 
+// Behind a byte that is a token of its own.
+fn past_byte(b: u8, c: Cursor) -> Cursor
+    requires { ⌜ (c .at < 65535) × (c .line ≤ 65536) ⌝ }
+    ensures { λ r. ⌜ r ≡ cond (eqb b 10) (record { at = c .at + 1; line = c .line + 1; other = false; comment = false }) (record { at = c .at + 1; line = c .line; other = c .other || not (isWhite b); comment = false }) ⌝ }
+{
+    if b == 10 {
+        return past_newline(c);
+    }
+    Cursor {
+        at: c.at + 1,
+        line: c.line,
+        other: c.other | !is_white(b),
+        comment: false,
+    }
+}
+
 fn write_token(t: Token, w: &[u8], place: u32, text: &mut [u8], map: &mut [u32], z: Spot) -> Wrote
     requires { ⌜ Writable (now w) place 1 (now text) (now map) z × (0 < length (now w)) × (mayWrap (t .kind) ≡ false → newlines (now w) ≡ 0) ⌝ }
     ensures { λ r. ⌜ WroteBy r (placed 1 place (now (w .entry))) (now (text .entry)) (now (text .exit)) (now (map .entry)) (now (map .exit)) z ⌝ }
@@ -231,16 +245,12 @@ pub fn copy_tokens(
         let at = c.at;
         let b = peek(s, at);
         let place = base + c.line as u32;
-        if is_white(b) | (b == 10) {
+        if is_single(b) {
             let r = write_one(b, place, text, map, z);
             match r {
                 Wrote::Upto(y) => {
                     z = y;
-                    if b == 10 {
-                        c = past_newline(c);
-                        continue;
-                    }
-                    c = past_white(c);
+                    c = past_byte(b, c);
                     continue;
                 }
                 Wrote::Full(k) => {
@@ -276,12 +286,8 @@ pub fn skip_tokens(s: &[u8], start: Cursor) -> Skipped
     loop {
         let at = c.at;
         let b = peek(s, at);
-        if is_white(b) {
-            c = past_white(c);
-            continue;
-        }
-        if b == 10 {
-            c = past_newline(c);
+        if is_single(b) {
+            c = past_byte(b, c);
             continue;
         }
         let t = token_at(s, at, in_file());

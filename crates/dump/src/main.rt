@@ -2,33 +2,8 @@
 // lengths lent for text, map, records, macro bytes and words; the replacement limit; the starting keyword set; the root.
 use libc::STDERR_FILENO;
 use libc::STDIN_FILENO;
-
-// What an argument gives that is no number, or no smaller one.
-const NONE: u32 = 4294967295;
-
-// The decimal number in `digits`, or NONE.
-fn number_of(digits: &[u8]) -> u32 {
-    if digits.len() == 0 {
-        return NONE;
-    }
-    let mut n: u32 = 0;
-    let mut i = 0;
-    while i < digits.len() {
-        let b = digits[i];
-        if b < 48 {
-            return NONE;
-        }
-        if 57 < b {
-            return NONE;
-        }
-        if 400000000 < n {
-            return NONE;
-        }
-        n = n * 10 + (b - 48) as u32;
-        i += 1;
-    }
-    n
-}
+use report::NONE;
+use report::number_of;
 
 fn complain(i: usize, most: usize) {
     io::write_all(STDERR_FILENO, b"dump: argument ");

@@ -1,6 +1,33 @@
-// Prints a classification, a line for the answer and a line for each word.
+// Numbers of a command line, and a classification printed: a line for the answer and a line for each word.
 use classify::Classified;
 use libc::STDOUT_FILENO;
+
+// What is no number, or no smaller one.
+pub const NONE: u32 = 4294967295;
+
+// The decimal number in `digits`, or NONE.
+pub fn number_of(digits: &[u8]) -> u32 {
+    if digits.len() == 0 {
+        return NONE;
+    }
+    let mut n: u32 = 0;
+    let mut i = 0;
+    while i < digits.len() {
+        let b = digits[i];
+        if b < 48 {
+            return NONE;
+        }
+        if 57 < b {
+            return NONE;
+        }
+        if 400000000 < n {
+            return NONE;
+        }
+        n = n * 10 + (b - 48) as u32;
+        i += 1;
+    }
+    n
+}
 
 // A space and the number.
 pub fn print_number(n: u64) {

@@ -1,10 +1,23 @@
-// Test scripts: fields of a script on standard input, what a program prints of its steps, definitions carried out.
+// Test scripts: fields of a script on standard input, what a program prints of its steps, definitions and removals carried out.
+ghost use mathlib.Core.Path.{_≡_};
 ghost use Prim.Native.Nat.{_<_, _≤_};
 ghost use lib.ListN.{length};
 ghost use Rattle.store.specs.Buffers.{Stored};
 ghost use Rattle.macros.specs.Defining.{Ready};
 use libc::STDOUT_FILENO;
 use macros::ReadIn;
+
+// Where the next step starts, and the number of macros then.
+pub struct Next {
+    pub at: usize,
+    pub count: usize,
+}
+
+pub fn next_at(at: usize, count: usize) -> Next
+    ensures { λ r. ⌜ (r .at ≡ at) × (r .count ≡ count) ⌝ }
+{
+    Next { at, count }
+}
 
 pub fn least(a: usize, b: usize) -> usize
     ensures { λ r. ⌜ (r ≤ a) × (r ≤ b) ⌝ }
@@ -43,17 +56,21 @@ fn sum_of(w: &[u8]) -> usize
     n
 }
 
+// Some bytes in hex.
+pub fn say_hex(w: &[u8]) {
+    let mut i = 0;
+    while i < w.len() {
+        say_byte(w[i]);
+        i += 1;
+    }
+}
+
 // The length of some bytes, the number that they give, and the first 300 of them.
 pub fn say_bytes(w: &[u8]) {
     say_number(w.len());
     say_number(sum_of(w));
     say(b" ");
-    let n = least(w.len(), 300);
-    let mut i = 0;
-    while i < n {
-        say_byte(w[i]);
-        i += 1;
-    }
+    say_hex(text::part_of(w, 0, 300));
     say(b"\n");
 }
 
@@ -90,6 +107,26 @@ pub fn field_end(s: &[u8], at: usize) -> usize
 {
     let e = at + 4 + number_at(s, at);
     if s.len() < e { s.len() } else { e }
+}
+
+// Copies `k` records, four numbers each, from `at` on; how many there is room for.
+pub fn fill_records(s: &[u8], at: usize, k: usize, records: &mut [[u32; 4]]) -> usize
+    requires { ⌜ (at ≤ 1073741824) × (length (now records) ≤ 300) ⌝ }
+    ensures { λ r. ⌜ r ≤ length (now (records .exit)) ⌝ }
+{
+    let n = least(k, records.len());
+    let mut i = 0;
+    while i < n {
+        let a = at + 16 * i;
+        records[i] = [
+            number_at(s, a) as u32,
+            number_at(s, a + 4) as u32,
+            number_at(s, a + 8) as u32,
+            number_at(s, a + 12) as u32,
+        ];
+        i += 1;
+    }
+    n
 }
 
 pub fn run_definition(
@@ -129,4 +166,16 @@ pub fn run_definition(
             count
         }
     }
+}
+
+// Takes the macro of this name out of the store; how many are left.
+pub fn take_out(bytes: &mut [u8], records: &mut [[u32; 4]], count: usize, w: &[u8]) -> usize
+    requires { ⌜ (length (now bytes) ≤ 65536) × (count ≤ 256) × (Stored (now bytes) (now records) count) ⌝ }
+    ensures { λ r. ⌜ (Stored (now (bytes .exit)) (now (records .exit)) r) × (r ≤ 256) ⌝ }
+{
+    let n = store::undefine(bytes, records, count, macros::plain_name(w));
+    say(b"undefined");
+    say_number(n);
+    say(b"\n");
+    n
 }

@@ -7,26 +7,23 @@
 //   L name                 looks a macro up
 //   P                      prints the records and bytes
 //   F name bytes k records looks a macro up in these bytes and k records
-ghost use mathlib.Core.Path.{_≡_};
 ghost use Prim.Native.Nat.{_<_, _≤_};
 ghost use lib.ListN.{length};
 ghost use Rattle.store.specs.Buffers.{Stored};
 ghost use Rattle.macros.specs.Defining.{Ready};
 use libc::STDIN_FILENO;
+use script::Next;
 use script::field_at;
 use script::field_end;
+use script::fill_records;
 use script::least;
+use script::next_at;
 use script::number_at;
 use script::run_definition;
 use script::say;
 use script::say_bytes;
 use script::say_number;
-
-// Where the next step starts, and the number of macros then.
-struct Next {
-    at: usize,
-    count: usize,
-}
+use script::take_out;
 
 fn say_record(v: [u32; 4]) {
     say(b"rec");
@@ -101,26 +98,6 @@ fn run_starts(
     n
 }
 
-// Copies `k` records, four numbers each, from `at` on; how many there is room for.
-fn fill_records(s: &[u8], at: usize, k: usize, records: &mut [[u32; 4]]) -> usize
-    requires { ⌜ (at ≤ 1073741824) × (length (now records) ≤ 300) ⌝ }
-    ensures { λ r. ⌜ r ≤ length (now (records .exit)) ⌝ }
-{
-    let n = least(k, records.len());
-    let mut i = 0;
-    while i < n {
-        let a = at + 16 * i;
-        records[i] = [
-            number_at(s, a) as u32,
-            number_at(s, a + 4) as u32,
-            number_at(s, a + 8) as u32,
-            number_at(s, a + 12) as u32,
-        ];
-        i += 1;
-    }
-    n
-}
-
 // Looks a macro up in bytes and records of the script; the end of the step.
 fn run_foreign(s: &[u8], at: usize) -> usize
     requires { ⌜ (at ≤ length (now s)) × (length (now s) ≤ 1000000) ⌝ }
@@ -132,23 +109,6 @@ fn run_foreign(s: &[u8], at: usize) -> usize
     say(b"foreign");
     say_bytes(macros::look_up(field_at(s, b), &records[0..n], field_at(s, at)));
     k + 4 + 16 * n
-}
-
-fn take_out(bytes: &mut [u8], records: &mut [[u32; 4]], count: usize, w: &[u8]) -> usize
-    requires { ⌜ (length (now bytes) ≤ 65536) × (count ≤ 256) × (Stored (now bytes) (now records) count) ⌝ }
-    ensures { λ r. ⌜ (Stored (now (bytes .exit)) (now (records .exit)) r) × (r ≤ 256) ⌝ }
-{
-    let n = store::undefine(bytes, records, count, macros::plain_name(w));
-    say(b"undefined");
-    say_number(n);
-    say(b"\n");
-    n
-}
-
-fn next_at(at: usize, count: usize) -> Next
-    ensures { λ r. ⌜ (r .at ≡ at) × (r .count ≡ count) ⌝ }
-{
-    Next { at, count }
 }
 
 // Carries out the step that the letter `b` begins, whose fields start at `at`.

@@ -2,31 +2,7 @@
 // start, 0 to 3.
 use libc::STDERR_FILENO;
 use libc::STDIN_FILENO;
-
-// The decimal number in `digits`, or 4,294,967,295 where it is none or larger.
-fn number_of(digits: &[u8]) -> u32 {
-    let none: u32 = 4294967295;
-    if digits.len() == 0 {
-        return none;
-    }
-    let mut n: u32 = 0;
-    let mut i = 0;
-    while i < digits.len() {
-        let b = digits[i];
-        if b < 48 {
-            return none;
-        }
-        if 57 < b {
-            return none;
-        }
-        if 400000000 < n {
-            return none;
-        }
-        n = n * 10 + (b - 48) as u32;
-        i += 1;
-    }
-    n
-}
+use report::number_of;
 
 fn argument(i: usize) -> u32 {
     let mut word = [0u8; 16];

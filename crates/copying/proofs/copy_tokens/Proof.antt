@@ -8,7 +8,7 @@ use lib.ListN.{length}
 use borrow.Author.Needs.{needs}
 use Rattle.writing.proofs.Laws.{puts-text, puts-map}
 use Rattle.copying.specs.Copying.{CopiesTo}
-use Rattle.copying.proofs.Going.{Moves, moves-other, moves-newline, moves-copied, moves-less, byte-small, line-fits, part-small, byte-writable, token-writable, copied-none, copied-byte, copied-token, full-byte, full-token, copied-upto}
+use Rattle.copying.proofs.Going.{Moves, moves-byte, moves-copied, moves-less, byte-small, line-fits, part-small, byte-writable, token-writable, copied-none, copied-byte, copied-token, full-byte, full-token, copied-upto}
 use Rattle.copying.proofs.copy_tokens.Statement.{statement}
 use Rattle.copying.proofs.copy_tokens.Tie as tie
 
@@ -30,8 +30,8 @@ cast-place c = omega (arith, line-fits (c .before .before .loop .inv .copyable .
 add-place : tie.Need-add-place Inv-loop μ-loop
 add-place c = omega (arith, line-fits (c .before .before .loop .inv .copyable .reads), c .before .before .loop .inv .copyable .reads .place-small)
 
-is-white-requires : tie.Need-is-white-requires Inv-loop μ-loop
-is-white-requires c κs = search needs
+is-single-requires : tie.Need-is-single-requires Inv-loop μ-loop
+is-single-requires c κs = search needs
 
 write-one-requires : tie.Need-write-one-requires Inv-loop μ-loop
 write-one-requires c κs = byte-writable (c .before .before .before .before .before .before .loop .inv)
@@ -39,29 +39,17 @@ write-one-requires c κs = byte-writable (c .before .before .before .before .bef
 enum-known-r : tie.Need-enum-known-r Inv-loop μ-loop
 enum-known-r c = search needs
 
-past-newline-requires : tie.Need-past-newline-requires Inv-loop μ-loop
-past-newline-requires c κs = (byte-small (c .before .before .before .before .before .before .before .before .before .before .before .before .before .before .before .loop .inv .copyable .reads) (c .before .before .before .before .before .before .before .before .before .before .before .before .before .before .peek .ensures) (c .before .before .before .before .before .before .before .before .before .before .before .before .is-white .ensures) (c .before .before .before .before .before .before .before .before .before .before .before .if1 .taken), line-fits (c .before .before .before .before .before .before .before .before .before .before .before .before .before .before .before .loop .inv .copyable .reads))
+past-byte-requires : tie.Need-past-byte-requires Inv-loop μ-loop
+past-byte-requires c κs = (byte-small (c .before .before .before .before .before .before .before .before .before .before .before .before .before .before .loop .inv .copyable .reads) (c .before .before .before .before .before .before .before .before .before .before .before .before .before .peek .ensures) (c .before .before .before .before .before .before .before .before .before .before .before .is-single .ensures) (c .before .before .before .before .before .before .before .before .before .before .if1 .taken), line-fits (c .before .before .before .before .before .before .before .before .before .before .before .before .before .before .loop .inv .copyable .reads))
 
-moved : (c : tie.After-past-newline Inv-loop μ-loop) → Moves (c .before .before .before .before .before .before .before .before .before .before .before .before .before .before .before .before .before .before .before .before .args .s .now) true (c .before .before .before .before .before .before .before .before .before .before .before .before .before .before .before .before .loop .c) (c .past-newline .result)
-moved c = moves-newline true (c .before .before .before .before .before .before .before .before .before .before .before .before .before .before .before .peek .ensures) (c .before .if2 .taken) (c .past-newline .ensures)
+moved : (c : tie.After-past-byte Inv-loop μ-loop) → Moves (c .before .before .before .before .before .before .before .before .before .before .before .before .before .before .before .before .before .before .before .args .s .now) true (c .before .before .before .before .before .before .before .before .before .before .before .before .before .before .before .loop .c) (c .past-byte .result)
+moved c = moves-byte true (c .before .before .before .before .before .before .before .before .before .before .before .before .before .before .peek .ensures) (c .before .before .before .before .before .before .before .before .before .before .before .before .is-single .ensures) (c .before .before .before .before .before .before .before .before .before .before .before .if1 .taken) (c .past-byte .ensures)
 
 loop-less : tie.Need-loop-less Inv-loop μ-loop
 loop-less c = moves-less (moved c)
 
 loop-again : tie.Need-loop-again Inv-loop μ-loop
-loop-again c = copied-byte (c .before .before .before .before .before .before .before .before .before .before .before .before .before .before .before .before .loop .inv) (c .before .before .before .before .before .before .before .before .before .before .before .before .before .before .before .peek .ensures) (c .before .before .before .before .before .before .before .before .before .before .before .before .before .is-white .ensures) (c .before .before .before .before .before .before .before .before .before .before .before .before .if1 .taken) (c .before .before .before .before .before .before .before .before .before .write-one .ensures) (c .before .before .before .r .given .1) (moved c)
-
-past-white-requires : tie.Need-past-white-requires Inv-loop μ-loop
-past-white-requires c κs = byte-small (c .before .before .before .before .before .before .before .before .before .before .before .before .before .before .before .loop .inv .copyable .reads) (c .before .before .before .before .before .before .before .before .before .before .before .before .before .before .peek .ensures) (c .before .before .before .before .before .before .before .before .before .before .before .before .is-white .ensures) (c .before .before .before .before .before .before .before .before .before .before .before .if1 .taken)
-
-moved-2 : (c : tie.After-past-white Inv-loop μ-loop) → Moves (c .before .before .before .before .before .before .before .before .before .before .before .before .before .before .before .before .before .before .before .before .args .s .now) true (c .before .before .before .before .before .before .before .before .before .before .before .before .before .before .before .before .loop .c) (c .past-white .result)
-moved-2 c = moves-other true (c .before .before .before .before .before .before .before .before .before .before .before .before .before .before .before .peek .ensures) (c .before .before .before .before .before .before .before .before .before .before .before .before .before .is-white .ensures) (c .before .before .before .before .before .before .before .before .before .before .before .before .if1 .taken) (c .before .if2 .left) (c .past-white .ensures)
-
-loop-less-2 : tie.Need-loop-less-2 Inv-loop μ-loop
-loop-less-2 c = moves-less (moved-2 c)
-
-loop-again-2 : tie.Need-loop-again-2 Inv-loop μ-loop
-loop-again-2 c = copied-byte (c .before .before .before .before .before .before .before .before .before .before .before .before .before .before .before .before .loop .inv) (c .before .before .before .before .before .before .before .before .before .before .before .before .before .before .before .peek .ensures) (c .before .before .before .before .before .before .before .before .before .before .before .before .before .is-white .ensures) (c .before .before .before .before .before .before .before .before .before .before .before .before .if1 .taken) (c .before .before .before .before .before .before .before .before .before .write-one .ensures) (c .before .before .before .r .given .1) (moved-2 c)
+loop-again c = copied-byte (c .before .before .before .before .before .before .before .before .before .before .before .before .before .before .before .loop .inv) (c .before .before .before .before .before .before .before .before .before .before .before .before .before .before .peek .ensures) (c .before .before .before .before .before .before .before .before .before .before .before .before .is-single .ensures) (c .before .before .before .before .before .before .before .before .before .before .before .if1 .taken) (c .before .before .before .before .before .before .before .before .write-one .ensures) (c .before .before .r .given .1) (moved c)
 
 enum-known-r-2 : tie.Need-enum-known-r-2 Inv-loop μ-loop
 enum-known-r-2 c = search needs
@@ -73,7 +61,7 @@ same-length-2 : tie.Need-same-length-2 Inv-loop μ-loop
 same-length-2 c = c .before .before .before .before .before .before .before .write-one .kept .1 .1 .1 .0 ∙ puts-map (c .before .before .before .before .before .before .before .before .before .before .before .before .before .before .loop .inv .puts)
 
 returns : tie.Need-returns Inv-loop μ-loop
-returns c = full-byte (c .before .before .before .before .before .before .before .before .before .before .before .before .before .before .loop .inv) (c .before .before .before .before .before .before .before .before .before .before .before .before .before .peek .ensures) (c .before .before .before .before .before .before .before .before .before .before .before .is-white .ensures) (c .before .before .before .before .before .before .before .before .before .before .if1 .taken) (c .before .before .before .before .before .before .before .write-one .ensures) (c .before .r2 .given .1)
+returns c = full-byte (c .before .before .before .before .before .before .before .before .before .before .before .before .before .before .loop .inv) (c .before .before .before .before .before .before .before .before .before .before .before .before .before .peek .ensures) (c .before .before .before .before .before .before .before .before .before .before .before .is-single .ensures) (c .before .before .before .before .before .before .before .before .before .before .if1 .taken) (c .before .before .before .before .before .before .before .write-one .ensures) (c .before .r2 .given .1)
 
 in-file-requires : tie.Need-in-file-requires Inv-loop μ-loop
 in-file-requires c κs = search needs
@@ -91,13 +79,13 @@ same-length-4 : tie.Need-same-length-4 Inv-loop μ-loop
 same-length-4 c = puts-map (c .before .before .before .before .before .before .before .before .loop .inv .puts)
 
 returns-2 : tie.Need-returns-2 Inv-loop μ-loop
-returns-2 c = copied-upto (c .before .before .before .before .before .before .before .before .loop .inv) (c .before .before .before .in-file .ensures) (c .before .before .token-at .ensures) (c .before .stops .ensures) (c .if3 .taken)
+returns-2 c = copied-upto (c .before .before .before .before .before .before .before .before .loop .inv) (c .before .before .before .in-file .ensures) (c .before .before .token-at .ensures) (c .before .stops .ensures) (c .if2 .taken)
 
 part-of-requires : tie.Need-part-of-requires Inv-loop μ-loop
 part-of-requires c κs = search needs
 
 write-token-requires : tie.Need-write-token-requires Inv-loop μ-loop
-write-token-requires c κs = token-writable (c .before .before .before .before .before .before .before .before .before .before .before .loop .inv) (c .before .before .before .before .before .before .in-file .ensures) (c .before .before .before .before .before .token-at .ensures) (c .before .before .before .before .stops .ensures) (c .before .before .before .if3 .left) (c .before .before .part-of .ensures)
+write-token-requires c κs = token-writable (c .before .before .before .before .before .before .before .before .before .before .before .loop .inv) (c .before .before .before .before .before .before .in-file .ensures) (c .before .before .before .before .before .token-at .ensures) (c .before .before .before .before .stops .ensures) (c .before .before .before .if2 .left) (c .before .before .part-of .ensures)
 
 enum-known-r-3 : tie.Need-enum-known-r-3 Inv-loop μ-loop
 enum-known-r-3 c = search needs
@@ -105,14 +93,14 @@ enum-known-r-3 c = search needs
 past-token-requires : tie.Need-past-token-requires Inv-loop μ-loop
 past-token-requires c κs = (line-fits (c .before .before .before .before .before .before .before .before .before .before .before .before .before .before .before .before .before .before .before .loop .inv .copyable .reads), part-small (c .before .before .before .before .before .before .before .before .before .before .before .before .before .before .before .before .before .before .before .loop .inv .copyable .reads) _ (c .before .before .before .before .before .before .before .before .before .before .part-of .ensures))
 
-moved-3 : (c : tie.After-past-token Inv-loop μ-loop) → Moves (c .before .before .before .before .before .before .before .before .before .before .before .before .before .before .before .before .before .before .before .before .before .before .before .before .args .s .now) true (c .before .before .before .before .before .before .before .before .before .before .before .before .before .before .before .before .before .before .before .before .loop .c) (c .past-token .result)
-moved-3 c = moves-copied (c .before .before .before .before .before .before .before .before .before .before .before .before .before .before .before .in-file .ensures) (c .before .before .before .before .before .before .before .before .before .before .before .before .before .before .token-at .ensures) (c .before .before .before .before .before .before .before .before .before .before .before .before .before .stops .ensures) (c .before .before .before .before .before .before .before .before .before .before .before .before .if3 .left) (c .before .before .before .before .before .before .before .before .before .before .before .part-of .ensures) (c .past-token .ensures)
+moved-2 : (c : tie.After-past-token Inv-loop μ-loop) → Moves (c .before .before .before .before .before .before .before .before .before .before .before .before .before .before .before .before .before .before .before .before .before .before .before .before .args .s .now) true (c .before .before .before .before .before .before .before .before .before .before .before .before .before .before .before .before .before .before .before .before .loop .c) (c .past-token .result)
+moved-2 c = moves-copied (c .before .before .before .before .before .before .before .before .before .before .before .before .before .before .before .in-file .ensures) (c .before .before .before .before .before .before .before .before .before .before .before .before .before .before .token-at .ensures) (c .before .before .before .before .before .before .before .before .before .before .before .before .before .stops .ensures) (c .before .before .before .before .before .before .before .before .before .before .before .before .if2 .left) (c .before .before .before .before .before .before .before .before .before .before .before .part-of .ensures) (c .past-token .ensures)
 
-loop-less-3 : tie.Need-loop-less-3 Inv-loop μ-loop
-loop-less-3 c = moves-less (moved-3 c)
+loop-less-2 : tie.Need-loop-less-2 Inv-loop μ-loop
+loop-less-2 c = moves-less (moved-2 c)
 
-loop-again-3 : tie.Need-loop-again-3 Inv-loop μ-loop
-loop-again-3 c = copied-token (c .before .before .before .before .before .before .before .before .before .before .before .before .before .before .before .before .before .before .before .before .loop .inv) (c .before .before .before .before .before .before .before .before .before .before .before .before .before .before .before .in-file .ensures) (c .before .before .before .before .before .before .before .before .before .before .before .before .before .before .token-at .ensures) (c .before .before .before .before .before .before .before .before .before .before .before .before .before .stops .ensures) (c .before .before .before .before .before .before .before .before .before .before .before .before .if3 .left) (c .before .before .before .before .before .before .before .before .before .before .before .part-of .ensures) (c .before .before .before .before .before .before .before .before .write-token .ensures) (c .before .before .r3 .given .1) (moved-3 c)
+loop-again-2 : tie.Need-loop-again-2 Inv-loop μ-loop
+loop-again-2 c = copied-token (c .before .before .before .before .before .before .before .before .before .before .before .before .before .before .before .before .before .before .before .before .loop .inv) (c .before .before .before .before .before .before .before .before .before .before .before .before .before .before .before .in-file .ensures) (c .before .before .before .before .before .before .before .before .before .before .before .before .before .before .token-at .ensures) (c .before .before .before .before .before .before .before .before .before .before .before .before .before .stops .ensures) (c .before .before .before .before .before .before .before .before .before .before .before .before .if2 .left) (c .before .before .before .before .before .before .before .before .before .before .before .part-of .ensures) (c .before .before .before .before .before .before .before .before .write-token .ensures) (c .before .before .r3 .given .1) (moved-2 c)
 
 enum-known-r-4 : tie.Need-enum-known-r-4 Inv-loop μ-loop
 enum-known-r-4 c = search needs
@@ -124,7 +112,7 @@ same-length-6 : tie.Need-same-length-6 Inv-loop μ-loop
 same-length-6 c = c .before .before .before .before .before .before .before .write-token .kept .1 .1 .1 .1 .0 ∙ puts-map (c .before .before .before .before .before .before .before .before .before .before .before .before .before .before .before .before .before .before .before .loop .inv .puts)
 
 returns-3 : tie.Need-returns-3 Inv-loop μ-loop
-returns-3 c = full-token (c .before .before .before .before .before .before .before .before .before .before .before .before .before .before .before .before .before .before .before .loop .inv) (c .before .before .before .before .before .before .before .before .before .before .before .before .before .before .in-file .ensures) (c .before .before .before .before .before .before .before .before .before .before .before .before .before .token-at .ensures) (c .before .before .before .before .before .before .before .before .before .before .before .before .stops .ensures) (c .before .before .before .before .before .before .before .before .before .before .before .if3 .left) (c .before .before .before .before .before .before .before .before .before .before .part-of .ensures) (c .before .before .before .before .before .before .before .write-token .ensures) (c .before .r4 .given .1)
+returns-3 c = full-token (c .before .before .before .before .before .before .before .before .before .before .before .before .before .before .before .before .before .before .before .loop .inv) (c .before .before .before .before .before .before .before .before .before .before .before .before .before .before .in-file .ensures) (c .before .before .before .before .before .before .before .before .before .before .before .before .before .token-at .ensures) (c .before .before .before .before .before .before .before .before .before .before .before .before .stops .ensures) (c .before .before .before .before .before .before .before .before .before .before .before .if2 .left) (c .before .before .before .before .before .before .before .before .before .before .part-of .ensures) (c .before .before .before .before .before .before .before .write-token .ensures) (c .before .r4 .given .1)
 
 pub copy-tokens-spec : {M : Type 1} → statement M
 copy-tokens-spec =
@@ -136,15 +124,12 @@ copy-tokens-spec =
     peek-requires
     cast-place
     add-place
-    is-white-requires
+    is-single-requires
     write-one-requires
     enum-known-r
-    past-newline-requires
+    past-byte-requires
     loop-less
     loop-again
-    past-white-requires
-    loop-less-2
-    loop-again-2
     enum-known-r-2
     same-length
     same-length-2
@@ -159,8 +144,8 @@ copy-tokens-spec =
     write-token-requires
     enum-known-r-3
     past-token-requires
-    loop-less-3
-    loop-again-3
+    loop-less-2
+    loop-again-2
     enum-known-r-4
     same-length-5
     same-length-6

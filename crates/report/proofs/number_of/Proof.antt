@@ -1,16 +1,16 @@
--- `words::number_of` meets its contract.
+-- `report::number_of` is safe and ends.
 -- Assumes nothing.
 use borrow.Author.Needs.{needs}
-use Prim.Native.Nat.{_≤_, _-_}
+use Prim.Native.Nat.{_-_, _≤_}
 use lib.ListN.{length}
-use Rattle.words.proofs.number_of.Statement.{statement}
-use Rattle.words.proofs.number_of.Tie as tie
+use Rattle.report.proofs.number_of.Statement.{statement}
+use Rattle.report.proofs.number_of.Tie as tie
 
 abbrev Inv-loop : tie.InvT-loop
-Inv-loop digits none n₀ i₀ n i = i ≤ length digits
+Inv-loop digits n₀ i₀ n i = i ≤ length digits
 
 abbrev μ-loop : tie.MeasureT-loop
-μ-loop digits none n₀ i₀ n i = length digits - i
+μ-loop digits n₀ i₀ n i = length digits - i
 
 returns : tie.Need-returns Inv-loop μ-loop
 returns c = search needs

@@ -1,9 +1,9 @@
--- `store_cases::take_out` meets its contract: a removal leaves no more macros.
+-- `script::take_out` meets its contract: a removal leaves no more macros.
 -- Assumes nothing.
 use Rattle.script.proofs.Steps.{after-removal}
 use borrow.Author.Needs.{needs}
-use Rattle.store_cases.proofs.take_out.Statement.{statement}
-use Rattle.store_cases.proofs.take_out.Tie as tie
+use Rattle.script.proofs.take_out.Statement.{statement}
+use Rattle.script.proofs.take_out.Tie as tie
 
 plain-name-requires : tie.Need-plain-name-requires
 plain-name-requires c κs = search needs

@@ -1,11 +1,11 @@
--- `store_cases::fill_records` meets its contract: the records are as many as they were.
+-- `script::fill_records` meets its contract: the records are as many as they were.
 -- Assumes nothing.
 use borrow.Author.Needs.{needs}
 use Prim.Native.Nat.{_-_}
 use mathlib.Core.Path.{_≡_}
 use lib.ListN.{length}
-use Rattle.store_cases.proofs.fill_records.Statement.{statement}
-use Rattle.store_cases.proofs.fill_records.Tie as tie
+use Rattle.script.proofs.fill_records.Statement.{statement}
+use Rattle.script.proofs.fill_records.Tie as tie
 
 abbrev Inv-loop : tie.InvT-loop
 Inv-loop s at k records₀ n i₀ records i = length records ≡ length records₀

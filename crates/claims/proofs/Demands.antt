@@ -9,7 +9,7 @@ use Rattle.definition.specs.Definitions.{Macro}
 use Rattle.handover.specs.Sizes.{HandOver, Rooms, isSound}
 use Rattle.turns.specs.States.{State, stop, Here}
 use Rattle.turns.specs.Usages.{usagePlace, madeBy, turnAt}
-use Rattle.turns.specs.Runs.{Run, runFrom, outcomeOf, contextOf, startOf, flattened}
+use Rattle.turns.specs.Runs.{Run, contextOf, startOf, flattened}
 use Rattle.turns.proofs.Running.{run-stop}
 use Rattle.passing.specs.Meeting.{Meets, expansionAt, Soft, Through, Part}
 use Rattle.passing.proofs.Exact.{pass-words, pass-first, chain-exact}
@@ -18,15 +18,12 @@ use Rattle.passing.proofs.Whole.{demand3}
 use Rattle.flatten.specs.Flattening.{Lent, roomsOf, Flattens}
 use Rattle.flatten.specs.declared.Flattened.{Flattened}
 use Rattle.claims.specs.Demands.{PassRight, Returned, DemandThree}
+use Rattle.claims.proofs.Taken.{taken}
 
 pass-right : (ms : List Macro) → PassRight ms
 pass-right ms = record { exact = pass-words ms; names-first = pass-first ms; longest = chain-exact ms }
 
 module _ (h : HandOver) (r : Rooms) (e : isSound h r ≡ true) where
-  taken : flattened h r ≡ outcomeOf (contextOf h r) (runFrom (contextOf h r) (startOf h r))
-  unfolding flattened
-  taken = rw e
-
   module _ (s : State) (b : Here) (w : List ℕ) (t : Through (contextOf h r) (startOf h r) s) (m : Meets (contextOf h r) s b w)
       (n : expansionAt b w .stop ≡ 0 → ⊥) where
     stops : turnAt (contextOf h r) s ≡ stop (expansionAt b w .stop) (b .frame .file) (usagePlace b (expansionAt b w)) (madeBy (expansionAt b w))
@@ -38,7 +35,7 @@ module _ (h : HandOver) (r : Rooms) (e : isSound h r ≡ true) where
     number-is : flattened h r .number ≡ expansionAt b w .stop
     number-is =
         let p : Part (contextOf h r) (startOf h r) s = demand3 h r .part e s t in
-        ap (λ o. o .number) taken ∙ ap (λ (u : Run). u .number) (p .whole)
+        ap (λ o. o .number) (taken h r e) ∙ ap (λ (u : Run). u .number) (p .whole)
         ∙ ap (λ (u : Run). u .number)
         (run-stop (contextOf h r) s (expansionAt b w .stop) (b .frame .file) (usagePlace b (expansionAt b w)) (madeBy (expansionAt b w)) stops)
 

@@ -17,6 +17,7 @@ use Rattle.turns.specs.Usages.{turnAt}
 use Rattle.turns.specs.Runs.{Run, Outcome, ends, onto, follow, runFor, measure, runFrom, contextOf, startOf, outcomeOf, flattened}
 use Rattle.claims.specs.Growing.{Larger, wantsRoom, Grows}
 use Rattle.claims.proofs.GrowingUsages.{Wider, Front, front-same, front-behind, front-on}
+use Rattle.claims.proofs.Taken.{taken}
 use Rattle.claims.proofs.GrowingTurns.{inRoom, writtenBy, TurnsGrow, both-go, both-stop, both-end, lacks-room, turn-grows}
 
 -- ---- a run
@@ -72,11 +73,6 @@ outcome-grows x g g′ k =
       same = λ z. ap (outcomeOf x) (k .run-same z);
     }
 
-flat-sound : (h : HandOver) (r : Rooms) → isSound h r ≡ true
-    → flattened h r ≡ outcomeOf (contextOf h r) (runFrom (contextOf h r) (startOf h r))
-unfolding flattened
-flat-sound h r e = rw e
-
 module _ (h : HandOver) (r r′ : Rooms) (l : Larger r r′) where
   -- the rooms for macros are the same
   context-same : contextOf h r′ ≡ contextOf h r
@@ -100,9 +96,9 @@ module _ (h : HandOver) (r r′ : Rooms) (l : Larger r r′) where
   pub larger-grows : isSound h r′ ≡ true → Grows (flattened h r) (flattened h r′)
   larger-grows e =
       let x = contextOf h r in
-      let a : flattened h r ≡ outcomeOf x (runFrom x (startOf h r)) = flat-sound h r (smaller-sound e) in
+      let a : flattened h r ≡ outcomeOf x (runFrom x (startOf h r)) = taken h r (smaller-sound e) in
       let b : flattened h r′ ≡ outcomeOf x (runFrom x (startOf h r′)) =
-      flat-sound h r′ e ∙ ap (λ (y : Context). outcomeOf y (runFrom y (startOf h r′))) context-same in
+      taken h r′ e ∙ ap (λ (y : Context). outcomeOf y (runFrom y (startOf h r′))) context-same in
       subst (λ (o : Outcome). Grows o (flattened h r′)) (sym a)
       (subst (λ (o : Outcome). Grows (outcomeOf x (runFrom x (startOf h r))) o) (sym b)
       (outcome-grows x (runFrom x (startOf h r)) (runFrom x (startOf h r′)) larger-runs))

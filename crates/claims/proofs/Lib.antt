@@ -1,3 +1,4 @@
+pub mod Taken
 pub mod GrowingUsages
 pub mod GrowingTurns
 pub mod Growing

@@ -36,6 +36,7 @@ use Rattle.turns.specs.Usages.{outerOf, usagePlace, usageTurn, takenTurn, grave
 use Rattle.turns.specs.Runs.{Run, follow, runFor, measure, runFrom, contextOf, startOf, Outcome, outcomeOf, flattened}
 use Rattle.claims.specs.Refused.{PlacedIn, NumberedIn}
 use Rattle.turns.proofs.Lines.{Reads, Framed, turn-framed, start-framed}
+use Rattle.claims.proofs.Taken.{taken}
 use Rattle.claims.proofs.RefusedTokens.{token-bars}
 use Rattle.claims.proofs.RefusedDirectives.{BarredIn, FaultIn, fault-barred, include-fault, form-bars, definition-bars}
 use Rattle.claims.proofs.RefusedUsages.{ExpansionIn, PutBars, put-bars, expand-in}
@@ -277,10 +278,6 @@ module _ (h : HandOver) (r : Rooms) where
       let x = contextOf h r in
       run-good x (measure x (startOf h r .frames)) (startOf h r) (start-framed h r e) tt
 
-  taken : isSound h r ≡ true → flattened h r ≡ outcomeOf (contextOf h r) (runFrom (contextOf h r) (startOf h r))
-  unfolding flattened
-  taken e = rw e
-
   module _ (e : isSound h r ≡ true) where
     abbrev x : Context
     x = contextOf h r
@@ -297,15 +294,15 @@ module _ (h : HandOver) (r : Rooms) where
         record { least = k .low; most = k .high }
 
     refused-run : (flattened h r .number ≡ 0 → ⊥) → eqb (run .number) 0 ≡ false
-    refused-run f = subst (λ (o : Outcome). eqb (o .number) 0 ≡ false) (taken e) (ne-eqb (flattened h r .number) 0 f)
+    refused-run f = subst (λ (o : Outcome). eqb (o .number) 0 ≡ false) (taken h r e) (ne-eqb (flattened h r .number) 0 f)
 
     -- the place of a refusal
     pub refused-placed : (flattened h r .number ≡ 0 → ⊥) → PlacedIn h (flattened h r)
-    refused-placed f = subst (PlacedIn h) (sym (taken e)) (placed (refused-run f))
+    refused-placed f = subst (PlacedIn h) (sym (taken h r e)) (placed (refused-run f))
 
     -- its number
     pub refused-number : (flattened h r .number ≡ 0 → ⊥) → NumberedIn (flattened h r)
-    refused-number f = subst NumberedIn (sym (taken e)) (numbered (refused-run f))
+    refused-number f = subst NumberedIn (sym (taken h r e)) (numbered (refused-run f))
 
   -- 1 is given exactly if the hand-over is not sound
   pub one-exactly : flattened h r .number ≡ 1 → isSound h r ≡ false

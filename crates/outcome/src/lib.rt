@@ -1,7 +1,5 @@
 // Flattens and classifies inputs of the printing program's form (document 01) and prints what comes of them: as that
 // program does, or the whole outcome.
-ghost use mathlib.Core.Path.{_≡_};
-ghost use Prim.Native.Nat.{_<_};
 use flatten::Flattened;
 use input::Parsed;
 use libc::STDOUT_FILENO;
@@ -321,22 +319,6 @@ fn print_flattened(r: Flattened, text: &[u8], map: &[u32], records: &[[u32; 4]],
     print_state(r.number, r.settings);
 }
 
-fn wide(x: u32) -> usize
-    ensures { λ r. ⌜ (r ≡ x) × (r < 4294967296) ⌝ }
-{
-    x as usize
-}
-
-// The name of macro `i`.
-fn name_of<'a>(records: &[[u32; 4]], bytes: &'a [u8], i: usize) -> &'a [u8] {
-    if records.len() <= i {
-        return part_of(bytes, 0, 0);
-    }
-    let v = records[i];
-    let a = wide(v[0]);
-    part_of(bytes, a, a + wide(v[1]))
-}
-
 // What pass answers on the macros that flatten left: yes, or a refusal and the macro's name; 1 after refusal 1.
 fn print_pass(number: usize, records: &[[u32; 4]], bytes: &[u8]) {
     if number == 1 {
@@ -349,7 +331,8 @@ fn print_pass(number: usize, records: &[[u32; 4]], bytes: &[u8]) {
         Answer::Fault(i, n) => {
             say(b"pass");
             print_number(n as u64);
-            print_bytes(name_of(records, bytes, i));
+            let q = packed::read(records, i);
+            print_bytes(part_of(bytes, q.start, q.start + q.name));
         }
         Answer::Foreign => say(b"pass 1\n"),
     }

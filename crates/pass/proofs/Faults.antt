@@ -7,7 +7,6 @@ use mathlib.Core.List.{List, [], _∷_}
 use mathlib.Core.Path.{_≡_, refl, sym, ap, ap₂, subst, _∙_}
 use native.Mathlib.Omega.{arith}
 use lib.ListN.{length, drop, getD}
-use lib.Seq.{drop-cons}
 use Rattle.definition.specs.Definitions.{Parameter, Macro, macro}
 use Rattle.packed.specs.Records.{blankRecord, RecordIs}
 use Rattle.packed.specs.declared.Record.{Record}
@@ -16,6 +15,7 @@ use Rattle.store.specs.Buffers.{Holds}
 use Rattle.store.specs.declared.Found.{Found}
 use Rattle.store.specs.declared.Found.the-variants.{At, Missing}
 use Rattle.store.proofs.Places.{found-below}
+use Rattle.packed.proofs.Rows.{any-default}
 use Rattle.pending.specs.declared.Pend.{Pend}
 use Rattle.pending.specs.Pending.{Pending, View, view}
 use Rattle.pending.specs.References.{pendOf, pendingBy, blank, stacked}
@@ -75,9 +75,6 @@ module _ (w : List ℕ) (ps : List Pending) {ms : List Macro} {b : List ℕ} {r 
     usage-bad c j z = sym (ap verdictOf (bar-is ∙ ap barOf (sought-by (sought.Refused c j) z)))
 
 -- ---- a token
-
-pub any-default : {A : Type 0} (l : List A) (i : ℕ) (d e : A) → i < length l → getD l i d ≡ getD l i e
-any-default l i d e h = cc (drop-cons l i d h, drop-cons l i e h)
 
 -- token k of the n
 stacked-at : (s b : List ℕ) (l : List (List ℕ)) (n k : ℕ) → k < n → drop k (stacked s b l n) ≡ pendingBy s b (pendOf (getD l (n - 1 - k) blank)) ∷ stacked s b l (n - (k + 1))

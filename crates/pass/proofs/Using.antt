@@ -13,13 +13,13 @@ use Rattle.store.specs.Stores.{find}
 use Rattle.store.specs.declared.Found.{Found}
 use Rattle.store.specs.declared.Found.the-variants.{At, Missing}
 use Rattle.sets.specs.Sets.{elem, insertAsc}
+use Rattle.packed.proofs.Rows.{any-default}
 use Rattle.pending.specs.declared.Pend.{Pend}
 use Rattle.pending.specs.Pending.{View, blanks, calls, names, opens, closes, commas, bars, plain, view}
 use Rattle.pending.specs.References.{pendOf, pendingBy, blank, stacked}
 use Rattle.expand.specs.Expanding.{isCall}
 use Rattle.passing.specs.Passing.{usedBy, usesOf, usesIn}
 use Rattle.pass.proofs.Naming.{usage-view, other-uses}
-use Rattle.pass.proofs.Faults.{any-default}
 
 -- ---- one more in a set
 

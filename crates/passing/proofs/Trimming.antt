@@ -8,20 +8,13 @@ use native.Mathlib.Omega.{arith}
 use lib.Dec.{eqb}
 use lib.ListN.{getD}
 use borrow.Author.Tests.{eqb-true}
+use Rattle.lex.proofs.Tests.{and-left, and-right}
 use Rattle.lex.specs.Tokens.{White, String, Byte}
 use Rattle.storing.specs.Stored.{joinedFrom}
 use Rattle.pending.specs.Pending.{Pending, View, blanks, calls, names, opens, closes, commas, bars, plain, byteView, isSpacing, isComment, kindView, view}
 use Rattle.arguments.specs.Arguments.{keep, part, close, fail, moveOf}
 use Rattle.replace.specs.Tidying.{cleaned, beforeNewline, isBackslash, cleanedAll, dropLeft, keepLast, dropRight}
 use Rattle.passing.proofs.Lists.{views, keep-close, keep-part, keep-fail, keep-same, Counted, last, kept, parted, Shut, more, Listed, skip, opened}
-
-and-left : (a b : Bool) → a && b ≡ true → a ≡ true
-and-left true b h = refl
-and-left false b h = h
-
-and-right : (a b : Bool) → a && b ≡ true → b ≡ true
-and-right true b h = h
-and-right false b h = absurd (let z : _≡_ {A = ℕ} 0 1 = cc in omega arith)
 
 -- ---- what bars nothing
 

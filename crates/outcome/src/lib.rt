@@ -43,6 +43,26 @@ pub fn flatten_input(
     }
 }
 
+// The same for the printing program: at most 60,000 bytes, root 0, set 1800-2005, 100,000 replacements, records of its own.
+fn flatten_own(s: &[u8], text: &mut [u8], map: &mut [u32], bytes: &mut [u8]) -> Handled {
+    if 60000 < s.len() {
+        return Handled::Unformed;
+    }
+    let mut table = [[0u32; 5]; 65];
+    let mut starts = [[0u32; 2]; 257];
+    let p = input::parse(s, &mut table, &mut starts);
+    match p {
+        Parsed::Broken => Handled::Unformed,
+        Parsed::Whole(n, m) => {
+            let files = &table[0..n];
+            let names = &starts[0..m];
+            let o = own::flatten(s, files, 0, names, 3, 100000, text, map, bytes);
+            let r = o.answer;
+            Handled::Flat(r)
+        }
+    }
+}
+
 fn say(w: &[u8]) {
     io::write_all(STDOUT_FILENO, w);
 }
@@ -136,15 +156,10 @@ pub fn print_input(
     s: &[u8],
     text: &mut [u8],
     map: &mut [u32],
-    records: &mut [[u32; 4]],
     bytes: &mut [u8],
     words: &mut [[u32; 3]],
 ) {
-    if 60000 < s.len() {
-        print_refusal(1, 0, 0, 0);
-        return;
-    }
-    let a = flatten_input(s, 0, 3, 100000, text, map, records, bytes);
+    let a = flatten_own(s, text, map, bytes);
     match a {
         Handled::Unformed => print_refusal(1, 0, 0, 0),
         Handled::Flat(r) => {

@@ -36,11 +36,8 @@ slice-aggregate-run-all-4 c = search needs
 slice-aggregate-run-all-5 : tie.Need-slice-aggregate-run-all-5
 slice-aggregate-run-all-5 c = search needs
 
-slice-aggregate-run-all-6 : tie.Need-slice-aggregate-run-all-6
-slice-aggregate-run-all-6 c = search needs
-
 run-all-requires : tie.Need-run-all-requires
-run-all-requires c κs = front-fits 1000000 (c .before .before .before .before .before .before .before .read-full .result) (c .before .before .before .before .before .before .before .read-full .last .1 .0) (c .before .before .before .before .before .before .before .read-full .kept .1 .0)
+run-all-requires c κs = front-fits 1000000 (c .before .before .before .before .before .before .read-full .result) (c .before .before .before .before .before .before .read-full .last .1 .0) (c .before .before .before .before .before .before .read-full .kept .1 .0)
 
 returns : tie.Need-returns
 returns c = search needs
@@ -57,6 +54,5 @@ main-spec =
     slice-aggregate-run-all-3
     slice-aggregate-run-all-4
     slice-aggregate-run-all-5
-    slice-aggregate-run-all-6
     run-all-requires
     returns)

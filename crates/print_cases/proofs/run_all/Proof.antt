@@ -8,10 +8,10 @@ use Rattle.print_cases.proofs.run_all.Statement.{statement}
 use Rattle.print_cases.proofs.run_all.Tie as tie
 
 abbrev Inv-loop : tie.InvT-loop
-Inv-loop s text₀ map₀ records₀ bytes₀ words₀ i₀ text map records bytes words i = (i ≤ length s) × (length text ≡ length text₀) × (length map ≡ length map₀) × (length records ≡ length records₀) × (length bytes ≡ length bytes₀) × (length words ≡ length words₀)
+Inv-loop s text₀ map₀ bytes₀ words₀ i₀ text map bytes words i = (i ≤ length s) × (length text ≡ length text₀) × (length map ≡ length map₀) × (length bytes ≡ length bytes₀) × (length words ≡ length words₀)
 
 abbrev μ-loop : tie.MeasureT-loop
-μ-loop s text₀ map₀ records₀ bytes₀ words₀ i₀ text map records bytes words i = length s - i
+μ-loop s text₀ map₀ bytes₀ words₀ i₀ text map bytes words i = length s - i
 
 loop-holds : tie.Need-loop-holds Inv-loop μ-loop
 loop-holds c = search needs
@@ -37,9 +37,6 @@ same-length-3 c = search needs
 same-length-4 : tie.Need-same-length-4 Inv-loop μ-loop
 same-length-4 c = search needs
 
-same-length-5 : tie.Need-same-length-5 Inv-loop μ-loop
-same-length-5 c = search needs
-
 returns : tie.Need-returns Inv-loop μ-loop
 returns c = search needs
 
@@ -49,6 +46,9 @@ loop-less c = search needs
 loop-again : tie.Need-loop-again Inv-loop μ-loop
 loop-again c = search needs
 
+same-length-5 : tie.Need-same-length-5 Inv-loop μ-loop
+same-length-5 c = search needs
+
 same-length-6 : tie.Need-same-length-6 Inv-loop μ-loop
 same-length-6 c = search needs
 
@@ -57,12 +57,6 @@ same-length-7 c = search needs
 
 same-length-8 : tie.Need-same-length-8 Inv-loop μ-loop
 same-length-8 c = search needs
-
-same-length-9 : tie.Need-same-length-9 Inv-loop μ-loop
-same-length-9 c = search needs
-
-same-length-10 : tie.Need-same-length-10 Inv-loop μ-loop
-same-length-10 c = search needs
 
 returns-2 : tie.Need-returns-2 Inv-loop μ-loop
 returns-2 c = search needs
@@ -81,13 +75,11 @@ run-all-spec =
     same-length-2
     same-length-3
     same-length-4
-    same-length-5
     returns
     loop-less
     loop-again
+    same-length-5
     same-length-6
     same-length-7
     same-length-8
-    same-length-9
-    same-length-10
     returns-2)

@@ -257,47 +257,7 @@ fn finish(
     write_flat(j, r, store, paths, text, map, words)
 }
 
-// Flattens into `text` and `map`.
-fn flatten_into(
-    j: Job,
-    write: bool,
-    store: &[u8],
-    table: &[[u32; 5]],
-    paths: &[[u32; 2]],
-    starts: &[[u32; 2]],
-    text: &mut [u8],
-    map: &mut [u32],
-    words: &mut [[u32; 3]],
-    bytes: &mut [u8],
-) -> Left {
-    let o = own::flatten(
-        store,
-        table,
-        j.root,
-        starts,
-        j.set,
-        j.limit,
-        text,
-        map,
-        bytes,
-    );
-    let records = o.records;
-    let digit = finish(
-        j,
-        o.answer,
-        write,
-        store,
-        table,
-        paths,
-        starts,
-        text,
-        map,
-        words,
-    );
-    Left { digit, records }
-}
-
-// The same, with a text and a map of its own.
+// Flattens into a text and a map of its own.
 fn flatten_files(
     j: Job,
     write: bool,
@@ -310,18 +270,21 @@ fn flatten_files(
 ) -> Left {
     let mut text = [0u8; 2097152];
     let mut map = [0u32; 131072];
-    flatten_into(
-        j,
-        write,
+    let o = own::flatten(
         store,
         table,
-        paths,
+        j.root,
         starts,
+        j.set,
+        j.limit,
         &mut text,
         &mut map,
-        words,
         bytes,
-    )
+    );
+    let r = o.answer;
+    let digit = finish(j, r, write, store, table, paths, starts, &text, &map, words);
+    let records = o.records;
+    Left { digit, records }
 }
 
 // Pass for 0, else look up of argument `i`, on the macros that are left.

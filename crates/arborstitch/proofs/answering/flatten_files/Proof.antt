@@ -1,23 +1,39 @@
--- `arborstitch::answering::flatten_files` is safe: the text and the map are as long as they say.
+-- `arborstitch::answering::flatten_files` is safe: the text and the map are as long as they say, before and after.
 -- Assumes nothing.
+use mathlib.Core.Path.{_≡_, sym, _∙_}
+use mathlib.Core.List.{List}
+use Prim.Native.Nat.{ℕ}
+use lib.ListN.{length, replicate, length-replicate}
 use Rattle.classify.proofs.Filled.{filled}
 use Rattle.arborstitch.proofs.answering.flatten_files.Statement.{statement}
 use Rattle.arborstitch.proofs.answering.flatten_files.Tie as tie
 
-slice-aggregate-flatten-into : tie.Need-slice-aggregate-flatten-into
-slice-aggregate-flatten-into c = filled 2097152
+as-long : (n : ℕ) (xs : List ℕ) → length xs ≡ length (replicate {A = ℕ} n 0) → n ≡ length xs
+as-long n xs e = sym (e ∙ length-replicate {A = ℕ} n 0)
 
-slice-aggregate-flatten-into-2 : tie.Need-slice-aggregate-flatten-into-2
-slice-aggregate-flatten-into-2 c = filled 131072
+slice-aggregate-flatten : tie.Need-slice-aggregate-flatten
+slice-aggregate-flatten c = filled 2097152
 
-flatten-into-requires : tie.Need-flatten-into-requires
-flatten-into-requires c κs = tt
+slice-aggregate-flatten-2 : tie.Need-slice-aggregate-flatten-2
+slice-aggregate-flatten-2 c = filled 131072
+
+flatten-requires : tie.Need-flatten-requires
+flatten-requires c κs = tt
+
+slice-aggregate-finish : tie.Need-slice-aggregate-finish
+slice-aggregate-finish c = as-long 2097152 (c .before .before .before .before .before .before .flatten .last .1 .1 .1 .1 .1 .1 .0) (c .before .before .before .before .before .before .flatten .kept .1 .1 .1 .1 .1 .1 .0)
+
+slice-aggregate-finish-2 : tie.Need-slice-aggregate-finish-2
+slice-aggregate-finish-2 c = as-long 131072 (c .before .before .before .before .before .before .before .flatten .last .1 .1 .1 .1 .1 .1 .1 .0) (c .before .before .before .before .before .before .before .flatten .kept .1 .1 .1 .1 .1 .1 .1 .0)
+
+finish-requires : tie.Need-finish-requires
+finish-requires c κs = tt
 
 same-length : tie.Need-same-length
-same-length c = c .before .before .before .before .before .flatten-into .kept .1 .1 .1 .1 .1 .1 .1 .1 .0
+same-length c = c .before .before .finish .kept .1 .1 .1 .1 .1 .1 .1 .1 .1 .0
 
 same-length-2 : tie.Need-same-length-2
-same-length-2 c = c .before .before .before .before .before .flatten-into .kept .1 .1 .1 .1 .1 .1 .1 .1 .1 .0
+same-length-2 c = c .before .before .before .before .before .before .before .before .before .before .before .flatten .kept .1 .1 .1 .1 .1 .1 .1 .1 .0
 
 returns : tie.Need-returns
 returns c = tt
@@ -26,9 +42,12 @@ pub flatten-files-spec : {M : Type 1} → statement M
 flatten-files-spec =
     tie.close
     (tie.spec
-    slice-aggregate-flatten-into
-    slice-aggregate-flatten-into-2
-    flatten-into-requires
+    slice-aggregate-flatten
+    slice-aggregate-flatten-2
+    flatten-requires
+    slice-aggregate-finish
+    slice-aggregate-finish-2
+    finish-requires
     same-length
     same-length-2
     returns)

@@ -28,8 +28,8 @@ use Rattle.handover.proofs.Laws.{entries-sound, entry-body, Sound, sound-facts}
 use Rattle.turns.specs.States.{Context, State}
 use Rattle.turns.specs.Runs.{Run, runFrom, measure, contextOf, startOf, Outcome, outcomeOf, notTaken, flattened}
 use Rattle.turns.proofs.Rooms.{Fits, run-fits}
-use Rattle.running.specs.declared.Stage.{Stage}
-use Rattle.running.specs.declared.Last.{Last}
+use Rattle.running.specs.declared.stage.Stage.{Stage}
+use Rattle.running.specs.declared.stage.Last.{Last}
 use Rattle.flatten.specs.declared.Flattened.{Flattened}
 use Rattle.running.specs.Standing.{Bufs, bufs, outerFrames, stateOf, Fixed, Going}
 use Rattle.running.specs.Ending.{Final, finish, ended, Finishes}

@@ -15,8 +15,8 @@ use Rattle.copying.specs.Cursors.{opening}
 use Rattle.handover.specs.Entries.{allEntries, bodyOf}
 use Rattle.handover.specs.Sizes.{HandOver, Rooms, isSound}
 use Rattle.turns.specs.Runs.{Outcome, flattened}
-use Rattle.running.specs.declared.Stage.{Stage}
-use Rattle.running.specs.declared.Last.{Last}
+use Rattle.running.specs.declared.stage.Stage.{Stage}
+use Rattle.running.specs.declared.stage.Last.{Last}
 use Rattle.flatten.specs.declared.Flattened.{Flattened}
 
 -- the buffers that are lent to flatten

@@ -25,9 +25,9 @@ use Rattle.turns.specs.Runs.{Run, ends, onto, measure, runFrom}
 use Rattle.turns.proofs.Progress.{turn-falls}
 use Rattle.turns.proofs.Running.{run-more, run-stop, run-finished}
 use Rattle.reading.specs.Reading.{ReadsTo}
-use Rattle.running.specs.declared.Stage.{Stage}
-use Rattle.running.specs.declared.Step.{Step}
-use Rattle.running.specs.declared.Step.the-variants as step
+use Rattle.running.specs.declared.stage.Stage.{Stage}
+use Rattle.running.specs.declared.stage.Step.{Step}
+use Rattle.running.specs.declared.stage.Step.the-variants as step
 use Rattle.running.specs.Standing.{Bufs, bufs, outerFrames, openFrames, stateOf, hereOf, lastStep, reachedAt, Ok, Fixed, isEnd, SteppedBy, Going}
 use Rattle.running.proofs.Going.{open-first}
 use Rattle.running.specs.Ending.{finish, ended, Advances, Finishes, AdvancedBy}

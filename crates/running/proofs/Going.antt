@@ -53,9 +53,9 @@ use Rattle.choosing.specs.Choosing.{NamedBy}
 use Rattle.including.specs.declared.Entered.{Entered}
 use Rattle.including.specs.declared.Entered.the-variants as entered
 use Rattle.including.specs.Including.{IncludeHere, Enters, EnteredBy}
-use Rattle.running.specs.declared.Stage.{Stage}
-use Rattle.running.specs.declared.Step.{Step}
-use Rattle.running.specs.declared.Step.the-variants as step
+use Rattle.running.specs.declared.stage.Stage.{Stage}
+use Rattle.running.specs.declared.stage.Step.{Step}
+use Rattle.running.specs.declared.stage.Step.the-variants as step
 use Rattle.running.specs.Standing.{Bufs, bufs, blankFrame, frameIn, outerFrames, openFrames, hereOf, endedAt, withCursor, withSpot, enteredAt, FrameOk, Ok, Fixed, At, Moves, isEnd, Stops, SteppedBy}
 use Rattle.running.proofs.Barring.{form-number, put-number}
 

@@ -22,8 +22,8 @@ use Rattle.turns.specs.States.{Context, Here, behind, framesAt, goTo}
 use Rattle.turns.specs.Turns.{skipTurn, endTurn, hideTurn}
 use Rattle.turns.specs.Usages.{takenTurn, tokenTurn}
 use Rattle.reading.specs.Reading.{Halts}
-use Rattle.running.specs.declared.Stage.{Stage}
-use Rattle.running.specs.declared.Step.the-variants as step
+use Rattle.running.specs.declared.stage.Stage.{Stage}
+use Rattle.running.specs.declared.stage.Step.the-variants as step
 use Rattle.running.specs.Standing.{bufs, hereOf, withCursor, Ok, Fixed, At, SteppedBy}
 use Rattle.running.proofs.Going.{body-here, token-at-here, token-here, goes-behind}
 

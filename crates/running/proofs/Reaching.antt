@@ -22,8 +22,8 @@ use Rattle.turns.specs.Usages.{tokenTurn}
 use Rattle.reading.specs.Reading.{Stays, Halts, ReachedBy, StaysBy}
 use Rattle.reading.specs.declared.Reached.{Reached}
 use Rattle.reading.specs.declared.Reached.the-variants as reached
-use Rattle.running.specs.declared.Stage.{Stage}
-use Rattle.running.specs.declared.Step.{Step}
+use Rattle.running.specs.declared.stage.Stage.{Stage}
+use Rattle.running.specs.declared.stage.Step.{Step}
 use Rattle.running.specs.Standing.{Bufs, bufs, outerFrames, hereOf, endedAt, reachedAt, Ok, Fixed, At, SteppedBy, Going, GoingIn}
 use Rattle.running.specs.Ending.{AdvancedBy}
 use Rattle.running.proofs.Advancing.{Led, turn-here, stepped, read-led, advance-refused, fixed-on}

@@ -1,27 +1,25 @@
 -- Which turn a token takes, and what the functions of its directive need.
 -- Assumes nothing.
 use Prim.Native.Nat.{ℕ, _≤_}
-use mathlib.Core.Bool.{true, false, _&&_}
+use mathlib.Core.Bool.{true, false, cond, _&&_}
 use mathlib.Core.List.{List, []}
 use mathlib.Core.Path.{_≡_, sym, ap, subst, _∙_}
 use native.Mathlib.Omega.{arith}
-use lib.Dec.{leb}
-use lib.ListN.{length, getD}
+use lib.Dec.{eqb, leb}
 use borrow.Author.Tests.{eq-eqb, ne-eqb}
 use Rattle.lex.specs.declared.Token.{Token}
 use Rattle.names.specs.Names.{FileWord, LineWord, Define, Undef, UndefineAll, Include, Resetall, EndKeywords}
 use Rattle.directive.specs.Include.{includeAt}
 use Rattle.definition.specs.Definitions.{Macro, definitionAt}
 use Rattle.macros.specs.Defining.{Ready}
-use Rattle.handover.specs.Entries.{blankEntry, nameOf as entryNamed}
-use Rattle.handover.proofs.Laws.{entries-sound, entry-name}
+use Rattle.handover.specs.Entries.{nameOf as entryNamed}
 use Rattle.copying.specs.Copying.{Reads}
 use Rattle.places.specs.Places.{quoted, decimal}
 use Rattle.turns.specs.States.{Context, Turn, stop, nothing, Here, refuse, behind, goTo}
 use Rattle.turns.specs.Turns.{defineTurn, undefTurn, includeTurn, keepTurn, fileWord, lineWord, wordTurn}
 use Rattle.turns.specs.Usages.{usageTurn, takenTurn}
-use Rattle.running.specs.declared.Stage.{Stage}
-use Rattle.running.specs.declared.Step.{Step}
+use Rattle.running.specs.declared.stage.Stage.{Stage}
+use Rattle.running.specs.declared.stage.Step.{Step}
 use Rattle.running.specs.Standing.{Bufs, hereOf, Fixed, At, SteppedBy, Works, GoingIn, UsageLent}
 use Rattle.running.proofs.Going.{reads-here, token-here, token-at-here}
 
@@ -43,9 +41,6 @@ module _ {fs : List ℕ} {es : List (List ℕ)} {tx mp bs : List ℕ} {rs fr : L
 
   pub line-low : z .cursor .line ≤ 65536
   line-low = let r = reads-at in omega (arith, r .small, r .inside, r .line-small)
-
-  pub name-fits : length (entryNamed fs es (z .file)) ≤ 255
-  name-fits = entry-name fs (getD es (z .file) blankEntry) (entries-sound fs es (z .file) (g .going .entries) (g .going .ok .file-in))
 
   module _ {list out ranges : List (List ℕ)} {stack work quoted decimal name form : List ℕ} (w : Works list out ranges stack work quoted decimal name form) where
     pub usage-lent : UsageLent fs es s t bs rs list out ranges stack work quoted decimal tx mp z
@@ -84,6 +79,19 @@ module _ {fs : List ℕ} {es : List (List ℕ)} {tx mp bs : List ℕ} {rs fr : L
 -- ---- which turn
 
 module _ (d : ℕ) (h : Here) where
+  -- `__FILE__`, `__LINE__` or a refused directive
+  abbrev pub placeTurn : Turn
+  placeTurn = cond (eqb d FileWord) (wordTurn h (fileWord h)) (cond (eqb d LineWord) (wordTurn h (lineWord h)) (refuse h 7))
+
+  place-file : d ≡ FileWord → placeTurn ≡ wordTurn h (fileWord h)
+  place-file e = simp (eq-eqb d FileWord e)
+
+  place-line : (d ≡ FileWord → ⊥) → d ≡ LineWord → placeTurn ≡ wordTurn h (lineWord h)
+  place-line n e = simp (ne-eqb d FileWord n, eq-eqb d LineWord e)
+
+  place-none : (d ≡ FileWord → ⊥) → (d ≡ LineWord → ⊥) → placeTurn ≡ refuse h 7
+  place-none n m = simp (ne-eqb d FileWord n, ne-eqb d LineWord m)
+
   pub taken-usage : d ≡ 0 → takenTurn d h ≡ usageTurn h
   unfolding takenTurn
   taken-usage e = simp (eq-eqb d 0 e)
@@ -121,19 +129,9 @@ module _ (d : ℕ) (h : Here) where
             taken-keep e = simp (ne-eqb d 0 n, ne-eqb d Define n2, ne-eqb d Undef n3, ne-eqb d UndefineAll n4, ne-eqb d Include n5, e)
 
             module _ (n6 : (leb Resetall d && leb d EndKeywords) ≡ false) where
-              pub taken-file : d ≡ FileWord → takenTurn d h ≡ wordTurn h (fileWord h)
+              pub taken-place : takenTurn d h ≡ placeTurn
               unfolding takenTurn
-              taken-file e = simp (ne-eqb d 0 n, ne-eqb d Define n2, ne-eqb d Undef n3, ne-eqb d UndefineAll n4, ne-eqb d Include n5, n6, eq-eqb d FileWord e)
-
-              pub taken-line : (d ≡ FileWord → ⊥) → d ≡ LineWord → takenTurn d h ≡ wordTurn h (lineWord h)
-              unfolding takenTurn
-              taken-line n7 e =
-                  simp (ne-eqb d 0 n, ne-eqb d Define n2, ne-eqb d Undef n3, ne-eqb d UndefineAll n4, ne-eqb d Include n5, n6, ne-eqb d FileWord n7, eq-eqb d LineWord e)
-
-              pub taken-none : (d ≡ FileWord → ⊥) → (d ≡ LineWord → ⊥) → takenTurn d h ≡ refuse h 7
-              unfolding takenTurn
-              taken-none n7 n8 =
-                  simp (ne-eqb d 0 n, ne-eqb d Define n2, ne-eqb d Undef n3, ne-eqb d UndefineAll n4, ne-eqb d Include n5, n6, ne-eqb d FileWord n7, ne-eqb d LineWord n8)
+              taken-place = simp (ne-eqb d 0 n, ne-eqb d Define n2, ne-eqb d Undef n3, ne-eqb d UndefineAll n4, ne-eqb d Include n5, n6)
 
 -- ---- what the code writes or refuses there
 
@@ -142,15 +140,15 @@ module _ (limit : ℕ) (ms : List Macro) (z : Stage) {x : Context} {fs : List �
   h = hereOf x limit B ms z
 
   -- `__FILE__`, by the entry's name n
-  pub file-written : (n w : List ℕ) → n ≡ entryNamed fs es (z .file) → w ≡ quoted n → wordTurn h (fileWord h) ≡ wordTurn h w
-  file-written n w e q =
-      let k : fileWord h ≡ w = rw (f .store-is, f .table-is) (sym (q ∙ ap quoted e)) in
-      ap (wordTurn h) k
+  pub file-written : (d : ℕ) (n w : List ℕ) → d ≡ FileWord → n ≡ entryNamed fs es (z .file) → w ≡ quoted n → placeTurn d h ≡ wordTurn h w
+  file-written d n w k e q =
+      let v : fileWord h ≡ w = rw (f .store-is, f .table-is) (sym (q ∙ ap quoted e)) in
+      place-file d h k ∙ ap (wordTurn h) v
 
   -- `__LINE__`
-  pub line-written : (w : List ℕ) → w ≡ decimal 6 (z .cursor .line) → wordTurn h (lineWord h) ≡ wordTurn h w
-  line-written w q = ap (wordTurn h) (sym q)
+  pub line-written : (d : ℕ) (w : List ℕ) → (d ≡ FileWord → ⊥) → d ≡ LineWord → w ≡ decimal 6 (z .cursor .line) → placeTurn d h ≡ wordTurn h w
+  line-written d w n k q = place-line d h n k ∙ ap (wordTurn h) (sym q)
 
   -- at the token
-  pub refused-at : {s : List ℕ} {t : Token} (n : ℕ) → At fs es s t z → refuse h n ≡ stop n (z .file) (t .at) nothing
-  refused-at n a = ap (λ (t : Token). stop n (z .file) (t .at) nothing) (token-at-here f a)
+  pub refused-at : {s : List ℕ} {t : Token} (d : ℕ) → (d ≡ FileWord → ⊥) → (d ≡ LineWord → ⊥) → At fs es s t z → placeTurn d h ≡ stop 7 (z .file) (t .at) nothing
+  refused-at d n m a = place-none d h n m ∙ ap (λ (t : Token). stop 7 (z .file) (t .at) nothing) (token-at-here f a)

@@ -32,9 +32,9 @@ use Rattle.turns.specs.States.{Context, Turn, more, stop, Here, behind, roomAft
 use Rattle.turns.specs.Usages.{outerOf, madeBy, afterUsage, usageTurn}
 use Rattle.turns.proofs.Rooms.{Fits, expand-fits}
 use Rattle.turns.proofs.Inside.{usage-inside}
-use Rattle.running.specs.declared.Stage.{Stage}
-use Rattle.running.specs.declared.Step.{Step}
-use Rattle.running.specs.declared.Step.the-variants as step
+use Rattle.running.specs.declared.stage.Stage.{Stage}
+use Rattle.running.specs.declared.stage.Step.{Step}
+use Rattle.running.specs.declared.stage.Step.the-variants as step
 use Rattle.running.specs.Standing.{bufs, hereOf, endedAt, lastStep, withCursor, expandedTo, Ok, Fixed, At, Moves, Stops, SteppedBy}
 use Rattle.running.proofs.Going.{open-first, token-here, reads-there, body-here, token-at-here}
 

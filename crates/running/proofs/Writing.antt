@@ -44,9 +44,9 @@ use Rattle.turns.proofs.Inside.{token-inside, form-inside, bad-inside, good-ins
 use Rattle.keeping.specs.Keeping.{KeepHere, Keeps, KeptBy}
 use Rattle.keeping.specs.declared.Kept.{Kept}
 use Rattle.keeping.specs.declared.Kept.the-variants as kept
-use Rattle.running.specs.declared.Stage.{Stage}
-use Rattle.running.specs.declared.Step.{Step}
-use Rattle.running.specs.declared.Step.the-variants as step
+use Rattle.running.specs.declared.stage.Stage.{Stage}
+use Rattle.running.specs.declared.stage.Step.{Step}
+use Rattle.running.specs.declared.stage.Step.the-variants as step
 use Rattle.running.specs.Standing.{bufs, hereOf, endedAt, withCursor, withSpot, Ok, Fixed, At, Moves, SteppedBy}
 use Rattle.running.proofs.Going.{open-first, stops, reads-here, token-here, reads-there, body-here, token-at-here}
 use Rattle.running.proofs.Barring.{definition-number, put-number, keep-number}

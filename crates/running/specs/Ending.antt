@@ -12,9 +12,9 @@ use Rattle.writing.specs.Buffers.{spotAfter}
 use Rattle.writing.specs.declared.Spot.{Spot}
 use Rattle.turns.specs.States.{Context}
 use Rattle.turns.specs.Runs.{Run, measure, runFrom}
-use Rattle.running.specs.declared.Stage.{Stage}
-use Rattle.running.specs.declared.Step.{Step}
-use Rattle.running.specs.declared.Step.the-variants as step
+use Rattle.running.specs.declared.stage.Stage.{Stage}
+use Rattle.running.specs.declared.stage.Step.{Step}
+use Rattle.running.specs.declared.stage.Step.the-variants as step
 use Rattle.running.specs.Standing.{Bufs, stateOf, Going}
 
 -- all that a run leaves, but for the macros' bytes and records

@@ -22,9 +22,9 @@ use Rattle.copying.specs.Copying.{Reads, Copyable}
 use Rattle.copying.specs.declared.Cursor.{Cursor}
 use Rattle.turns.specs.States.{Context, Frame, State, Made, Turn, more, stop, finished, Here}
 use Rattle.turns.specs.Usages.{hereAt}
-use Rattle.running.specs.declared.Stage.{Stage}
-use Rattle.running.specs.declared.Step.{Step}
-use Rattle.running.specs.declared.Step.the-variants as step
+use Rattle.running.specs.declared.stage.Stage.{Stage}
+use Rattle.running.specs.declared.stage.Step.{Step}
+use Rattle.running.specs.declared.stage.Step.the-variants as step
 
 -- the lent buffers that a run writes or reads back
 pub record Bufs : Type 0 where

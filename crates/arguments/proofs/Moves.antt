@@ -79,6 +79,10 @@ module _ (b : ℕ) (due : List ℕ) where
       go false false false false false false true e1 e2 e3 e4 e5 e6 e7 = at 123 e7 refl
       go false false false false false false false e1 e2 e3 e4 e5 e6 e7 = rw (e1, e2, e3, e4, e5, e6, e7)
 
+  -- a step that goes on keeps the byte
+  pub step-keeps : (ks : List ℕ) → stepOf b due ≡ on ks → moveOf (byteView b) due ≡ keep ks
+  step-keeps ks e = as-step ∙ ap (moveAs b) e
+
 -- the step r that the code took with n brackets due
 module _ (b : ℕ) (w w′ : List ℕ) (n : ℕ) (r : Stepped) (h : SteppedBy r (stepOf b (stackOf w n)) w w′ n) where
   abbrev Moves : Move → Type 0

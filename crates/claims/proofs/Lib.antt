@@ -2,7 +2,6 @@ pub mod Taken
 pub mod GrowingUsages
 pub mod GrowingTurns
 pub mod Growing
-pub mod RefusedTokens
 pub mod RefusedDirectives
 pub mod RefusedReplacing
 pub mod RefusedUsages

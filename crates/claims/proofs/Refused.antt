@@ -14,6 +14,7 @@ use Rattle.lex.specs.Tokens.{inFile, Grave, End, is, nameOf, tokenAt}
 use Rattle.lex.specs.declared.Token.{Token}
 use Rattle.lex.proofs.Tests.{by-test, true-false}
 use Rattle.lex.proofs.Progress.{token-at}
+use Rattle.lex.proofs.Barring.{token-bars}
 use Rattle.names.specs.Names.{FileWord, LineWord, Define, Undef, UndefineAll, Ifdef, Elsif, Else, Endif, Include, Resetall, EndKeywords, directiveOf}
 use Rattle.directive.specs.declared.Value.{Value}
 use Rattle.directive.specs.declared.Form.{Form}
@@ -37,7 +38,6 @@ use Rattle.turns.specs.Runs.{Run, follow, runFor, measure, runFrom, contextOf, 
 use Rattle.claims.specs.Refused.{PlacedIn, NumberedIn}
 use Rattle.turns.proofs.Lines.{Reads, Framed, turn-framed, start-framed}
 use Rattle.claims.proofs.Taken.{taken}
-use Rattle.claims.proofs.RefusedTokens.{token-bars}
 use Rattle.claims.proofs.RefusedDirectives.{BarredIn, FaultIn, fault-barred, include-fault, form-bars, definition-bars}
 use Rattle.claims.proofs.RefusedUsages.{ExpansionIn, PutBars, put-bars, expand-in}
 

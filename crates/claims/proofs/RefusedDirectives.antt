@@ -17,6 +17,7 @@ use Rattle.lex.specs.Faults.{fault, noFault, faultOf, worseOf}
 use Rattle.lex.specs.Tokens.{inFile, inDefinition, Newline, BlockComment, String, Name, Escaped, Number, is, isByte, isGap, tokenAt, tokens}
 use Rattle.lex.proofs.Tests.{by-test}
 use Rattle.lex.proofs.Progress.{token-at}
+use Rattle.lex.proofs.Barring.{Barring, numbered-none, numbered-some, illegal-bar, token-bars}
 use Rattle.lex.proofs.Listing.{by-tokens}
 use Rattle.names.specs.Names.{Include, Timescale, DefaultNettype, UnconnectedDrive, BeginKeywords, Unknown, unitOf, nettypeOf, driveOf, versionOf}
 use Rattle.directive.specs.declared.Word.{Word}
@@ -42,7 +43,6 @@ use Rattle.definition.specs.Extents.{isMark, markOf, extentIn, extentAt, least,
 use Rattle.definition.specs.Heads.{headAt}
 use Rattle.definition.specs.Lists.{Formals, ill, whole}
 use Rattle.definition.specs.Definitions.{Definition, barred, bad, good, isBad, shapeBy, textAt, judgedBy, definitionAt}
-use Rattle.claims.proofs.RefusedTokens.{Barring, numbered-none, numbered-some, illegal-bar, token-bars}
 
 -- one of 2 to 6, at a place in the text s or at its end
 pub record BarredIn (s : List ℕ) (n p : ℕ) : Type 0 where

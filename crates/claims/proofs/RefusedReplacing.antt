@@ -12,6 +12,7 @@ use Rattle.text.specs.Bytes.{same}
 use Rattle.lex.specs.declared.Token.{Token}
 use Rattle.lex.specs.Tokens.{inFile, inText, String, Name, Escaped, Quote, Grave, Byte, tokens}
 use Rattle.lex.proofs.Tests.{by-test}
+use Rattle.lex.proofs.Barring.{Barring, numbered-none}
 use Rattle.names.specs.Names.{isDirective, barsText}
 use Rattle.definition.specs.Definitions.{Parameter, parameter, Macro, macro}
 use Rattle.store.specs.Stores.{macroAt, find}
@@ -24,7 +25,6 @@ use Rattle.arguments.specs.Arguments as arguments
 use Rattle.replace.specs.Tidying.{cleaned, beforeNewline, isBackslash, cleanedAll, dropLeft, keepLast, dropRight, tidy, tidyAll}
 use Rattle.replace.specs.Replacing.{fallback, orElse, value, instead, imageOf, inPlace, Got, refused, got, textWith, enough, Listed, listed, accepted, listFor, withList, replaceBy, replaceAt, replace}
 use Rattle.replace.specs.Replacing as replacing
-use Rattle.claims.proofs.RefusedTokens.{Barring, numbered-none}
 use Rattle.claims.proofs.RefusedDirectives.{TokensIn, tokens-in}
 
 -- one of 2 to 20, at a place in the text s or at its end

@@ -6,13 +6,13 @@ use native.Mathlib.Omega.{arith}
 use lib.Dec.{ltb}
 use lib.ListN.{length}
 use Rattle.lex.proofs.Tests.{by-test}
+use Rattle.lex.proofs.Barring.{Numbered, numbered-none, numbered-some}
 use Rattle.definition.specs.Definitions.{Macro}
 use Rattle.writing.specs.Written.{Written, mapOf, placed, Room, Put, full, fitted, putIn}
 use Rattle.pending.specs.Pending.{Pending, fileFrom, View, blanks, calls, names, opens, closes, commas, bars, plain, view}
 use Rattle.replace.specs.Replacing.{Got, refused, got, replace, deepest}
 use Rattle.expand.specs.Expanding.{Outer, writes, Expansion, ends, Next, onGot, onPut, dealBy, walk, onward, first, expand}
 use Rattle.expand.specs.Expanding as expanding
-use Rattle.claims.proofs.RefusedTokens.{Numbered, numbered-none, numbered-some}
 use Rattle.claims.proofs.RefusedReplacing.{AllIn, GotIn, append-in, from-in, replace-in}
 
 -- an expansion in the file s that is not refused, or by one of 2 to 20, with a place in s or at its end

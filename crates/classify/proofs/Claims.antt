@@ -15,12 +15,13 @@ use Rattle.afresh.specs.Judging.{badIn, badText}
 use Rattle.definition.specs.Extents.{extentIn, extentAt, barsOf}
 use Rattle.definition.specs.Heads.{gapIn, gapEnd, openAt, headAt}
 use Rattle.definition.specs.Definitions.{parametersOf, badFormals, definitionAt}
+use Rattle.places.specs.Places.{newlines, lineAt}
 use Rattle.classify.specs.Words.{Words, ends, pastDirective, pastGrave, wordsFrom, wordsOf}
-use Rattle.classify.specs.Answer.{newlines, outcomeOf, lineAt, answerOf}
+use Rattle.classify.specs.Answer.{outcomeOf, refusedLine, answerOf}
 
 -- opens every definition that the examples compute
 unfoldable outcome : ℕ
-unfolding computing same keywords reservedIn isReserved numberIn macroDirectives stateDirectives otherDirectives otherOf stateOf directiveOf versionOf wordIn wordAt versionForm aloneValue formAt piece pieces trimLeft trimRight stored badIn badText extentIn extentAt barsOf gapIn gapEnd openAt headAt parametersOf badFormals definitionAt pastDirective pastGrave wordsFrom wordsOf outcomeOf newlines lineAt
+unfolding computing same keywords reservedIn isReserved numberIn macroDirectives stateDirectives otherDirectives otherOf stateOf directiveOf versionOf wordIn wordAt versionForm aloneValue formAt piece pieces trimLeft trimRight stored badIn badText extentIn extentAt barsOf gapIn gapEnd openAt headAt parametersOf badFormals definitionAt pastDirective pastGrave wordsFrom wordsOf outcomeOf newlines lineAt refusedLine
 outcome = 0
 
 -- these words and no refusal

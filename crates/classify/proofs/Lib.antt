@@ -2,5 +2,4 @@ pub mod Filled
 pub mod Passing
 pub mod Listing
 pub mod Writing
-pub mod Counting
 pub mod Claims

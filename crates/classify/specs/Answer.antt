@@ -1,39 +1,30 @@
 -- Classify's answer: 01's number, "line from 1, byte from 0", and the words written.
 -- Assumes nothing.
-use Prim.Native.Nat.{ℕ, _+_, _≤_}
+use Prim.Native.Nat.{ℕ}
 use mathlib.Core.Bool.{cond, _||_}
 use mathlib.Core.Path.{_≡_}
-use mathlib.Core.List.{List, [], _∷_, _++_}
-use lib.Dec.{eqb, leb, ltb}
-use lib.ListN.{length, take, drop}
-use Rattle.classify.specs.Words.{Words, ends, bit, wordsOf}
+use mathlib.Core.List.{List, _++_}
+use lib.Dec.{leb, ltb}
+use lib.ListN.{length, drop}
+use Rattle.places.specs.Places.{lineAt}
+use Rattle.classify.specs.Words.{Words, ends, wordsOf}
 use Rattle.classify.specs.declared.Ended.{Ended}
 use Rattle.classify.specs.declared.Classified.{Classified}
-
--- the newlines among bytes
-unfoldable pub newlines : List ℕ → ℕ
-newlines [] = 0
-newlines (x ∷ xs) = bit (eqb x 10) + newlines xs
-
--- a count, at most n
-pub record Counted (right n r : ℕ) : Type 0 where
-  pub count : r ≡ right
-  pub most : r ≤ n
 
 -- "Classify gives only 1 (starting set none of the four, text over 16,777,215 bytes), 2 to 6 and 21"
 unfoldable pub outcomeOf : ℕ → List ℕ → ℕ → Words
 outcomeOf v s k = cond (ltb 3 v || ltb 16777215 (length s)) (ends 1 0) (wordsOf v s k)
 
 -- the line of a refusal's place; of refusal 1 "the rest is 0", and so where nothing is refused
-unfoldable pub lineAt : List ℕ → ℕ → ℕ → ℕ
-lineAt s n p = cond (leb n 1) 0 (newlines (take p s) + 1)
+unfoldable pub refusedLine : List ℕ → ℕ → ℕ → ℕ
+refusedLine s n p = cond (leb n 1) 0 (lineAt s p)
 
 abbrev pub endedOf : Words → Ended
 endedOf w = record { number = w .number; place = w .place; words = length (w .words) }
 
 -- 01's number for each answer is the number itself; 0 where nothing is refused
 abbrev pub answerOf : List ℕ → Words → Classified
-answerOf s w = record { number = w .number; line = lineAt s (w .number) (w .place); byte = w .place; words = length (w .words) }
+answerOf s w = record { number = w .number; line = refusedLine s (w .number) (w .place); byte = w .place; words = length (w .words) }
 
 -- the lent list, with words written to its front
 abbrev pub overwritten : List (List ℕ) → List (List ℕ) → List (List ℕ)

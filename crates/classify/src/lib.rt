@@ -2,13 +2,13 @@
 ghost use mathlib.Core.Path.{_≡_};
 ghost use mathlib.Core.List.{[], _∷_};
 ghost use Prim.Native.Nat.{_≤_, _-_, _<_};
-ghost use lib.ListN.{length, take};
+ghost use lib.ListN.{length};
 ghost use Rattle.lex.specs.Tokens.{nameOf};
 ghost use Rattle.definition.specs.Definitions.{definitionAt};
 ghost use Rattle.definition.specs.Answers.{judgedOf};
 ghost use Rattle.keywords.specs.Tables.{Tables};
 ghost use Rattle.classify.specs.Words.{setBy, byForm, byDefinition, pastDirective, pastGrave, wordOf, bit, wordsOf};
-ghost use Rattle.classify.specs.Answer.{Counted, newlines, lineAt, outcomeOf, Listed, Answered};
+ghost use Rattle.classify.specs.Answer.{refusedLine, outcomeOf, Listed, Answered};
 use definition::Judged;
 use definition::judge_definition;
 use directive::Form;
@@ -25,6 +25,7 @@ use lex::in_file;
 use lex::token_at;
 use names::DEFINE;
 use names::directive_of;
+use places::line_at;
 use text::part_of;
 
 // The answer: the refusal's number, or 0; its line from 1 and its byte from 0, both 0 for refusal 1 and where nothing
@@ -241,34 +242,14 @@ fn list_words(
     make_ended(0, 0, n)
 }
 
-// The newlines before byte `end`.
-fn count_newlines(s: &[u8], end: usize) -> usize
-    ensures { λ r. ⌜ Counted (newlines (take end (now (s .entry)))) (length (now (s .entry))) r ⌝ }
-{
-    let mut i = 0;
-    let mut n = 0;
-    while i < end {
-        if s.len() <= i {
-            return n;
-        }
-        if s[i] == 10 {
-            n += 1;
-            i += 1;
-            continue;
-        }
-        i += 1;
-    }
-    n
-}
-
 // The line of a refusal's place.
 fn line_of(s: &[u8], number: usize, place: usize) -> usize
-    ensures { λ r. ⌜ r ≡ lineAt (now (s .entry)) number place ⌝ }
+    ensures { λ r. ⌜ r ≡ refusedLine (now (s .entry)) number place ⌝ }
 {
     if number <= 1 {
         return 0;
     }
-    count_newlines(s, place) + 1
+    line_at(s, place)
 }
 
 // Classifies a text of a size that is taken, in one of the four keyword sets.

@@ -1,8 +1,8 @@
 -- The tokens of a definition, by the token at i: its extent, the spacing before a word, where a default ends.
 -- Assumes nothing.
 use Prim.Native.Nat.{ℕ, _<_, _≤_}
-use mathlib.Core.Bool.{Bool, true, false, cond, not, _||_}
-use mathlib.Core.List.{List, [], _∷_}
+use mathlib.Core.Bool.{Bool, true, false, not, _||_}
+use mathlib.Core.List.{List, _∷_}
 use mathlib.Core.Path.{_≡_, refl, sym, ap, _∙_}
 use native.Mathlib.Omega.{arith}
 use lib.Dec.{eqb}
@@ -11,27 +11,20 @@ use borrow.Author.Tests.{eq-eqb, ne-eqb, eqb-true, not-true, not-false}
 use Rattle.lex.specs.declared.Fault.{Fault}
 use Rattle.lex.specs.declared.Mode.{Mode}
 use Rattle.lex.specs.declared.Token.{Token}
-use Rattle.lex.specs.Tokens.{inDefinition, between, turned, White, Newline, LineComment, BlockComment, Quote, Continuation, is, isGap, marksAfter, modeAfter, tokenAt, tokens}
+use Rattle.lex.specs.Tokens.{inDefinition, between, White, Newline, LineComment, BlockComment, Quote, Continuation, isGap, marksAfter, tokenAt, tokens}
 use Rattle.lex.specs.Faults.{faultOf, worseOf}
 use Rattle.lex.proofs.Tests.{true-false}
 use Rattle.lex.proofs.Progress.{token-ends}
-use Rattle.lex.proofs.Listing.{tokens-out, tokens-stop, tokens-next}
+use Rattle.lex.proofs.Listing.{tokens-out}
 use Rattle.brackets.specs.Steps.{Step, on, done, torn}
+use Rattle.storing.proofs.Reading.{newline-stops, define-next}
 use Rattle.definition.specs.declared.Ending.{Ending}
 use Rattle.definition.specs.declared.Ending.the-variants.{Upto, Torn}
 use Rattle.definition.specs.Extents.{markOf, extentIn}
 use Rattle.definition.specs.Heads.{gapIn, gapEnd}
 use Rattle.definition.specs.Lists.{stepAt, byStep, defaultIn}
 
--- in a definition a quote mark turns the one thing that is remembered
-mode-after : (b : Bool) (t : Token) → modeAfter (between inDefinition b) t ≡ between inDefinition (marksAfter b t)
-mode-after b t = go (is Quote t)
-  where
-    go : (q : Bool) → cond q (turned (between inDefinition b)) (between inDefinition b) ≡ between inDefinition (cond q (not b) b)
-    go true = refl
-    go false = refl
-
--- what is not a quote mark leaves it
+-- what is not a quote mark leaves the mode
 plain-mode : (t : Token) → (t .kind ≡ Quote → ⊥) → between inDefinition (marksAfter false t) ≡ inDefinition
 plain-mode t q = rw (ne-eqb (t .kind) Quote q)
 
@@ -76,15 +69,6 @@ module _ (s : List ℕ) (i : ℕ) where
     same-token : tokenAt (between inDefinition marks) s i ≡ t
     same-token = rw (e, f)
 
-    tokens-newline : t .kind ≡ Newline → tokens (between inDefinition marks) s i ≡ []
-    tokens-newline k = tokens-stop (between inDefinition marks) s i h (rw same-token (eq-eqb (t .kind) Newline k))
-
-    module _ (k : t .kind ≡ Newline → ⊥) where
-      tokens-first : tokens (between inDefinition marks) s i ≡ t ∷ tokens (between inDefinition (marksAfter marks t)) s (t .end)
-      tokens-first =
-          tokens-next (between inDefinition marks) s i h (rw same-token (ne-eqb (t .kind) Newline k))
-          ∙ rw same-token (ap (λ (m : Mode). t ∷ tokens m s (t .end)) (mode-after marks t))
-
     pub token-goes : i < t .end
     token-goes = rw (← same-token) (token-ends (between inDefinition marks) s i h)
 
@@ -92,18 +76,18 @@ module _ (s : List ℕ) (i : ℕ) where
       pub extent-newline : t .kind ≡ Newline
           → extentIn i bars mark (tokens (between inDefinition marks) s i) ≡ record { end = i; bars = bars; mark = mark }
       unfolding extentIn
-      extent-newline k = rw (tokens-newline k)
+      extent-newline k = rw (newline-stops marks m s i t f e h k)
 
       -- what bars the token, the worse, the mark, and whether quote marks are open past it
       pub extent-on : (t .kind ≡ Newline → ⊥) → (a g d : Fault) (n : Bool) → a ≡ faultOf t → g ≡ worseOf bars a → d ≡ markOf mark t → n ≡ marksAfter marks t
           → extentIn i bars mark (tokens (between inDefinition marks) s i) ≡ extentIn (t .end) g d (tokens (between inDefinition n) s (t .end))
       unfolding extentIn
-      extent-on k a g d n p q x y = rw (tokens-first k, q, p, x, y)
+      extent-on k a g d n p q x y = rw (define-next marks m s i t f e h k, q, p, x, y)
 
   module _ (m : Mode) (t : Token) (h : i < length s) (f : m ≡ inDefinition) (e : t ≡ tokenAt m s i) where
     -- past what is no quote mark the tokens are read as before it
     tokens-plain : (t .kind ≡ Newline → ⊥) → (t .kind ≡ Quote → ⊥) → tokens inDefinition s i ≡ t ∷ tokens inDefinition s (t .end)
-    tokens-plain k q = tokens-first false m t h f e k ∙ ap (λ (m : Mode). t ∷ tokens m s (t .end)) (plain-mode t q)
+    tokens-plain k q = define-next false m s i t f e h k ∙ ap (λ (m : Mode). t ∷ tokens m s (t .end)) (plain-mode t q)
 
     module _ (gap : Bool) (g : gap ≡ isGap t) where
       pub gap-on : not gap ≡ false → gapEnd s i ≡ gapEnd s (t .end)
@@ -117,21 +101,21 @@ module _ (s : List ℕ) (i : ℕ) where
       gap-stop n = go (eqb (t .kind) Newline) refl
         where
           go : (b : Bool) → eqb (t .kind) Newline ≡ b → gapIn i (tokens inDefinition s i) ≡ i
-          go true q = rw (tokens-newline false m t h f e (eqb-true (t .kind) Newline q))
+          go true q = rw (newline-stops false m s i t f e h (eqb-true (t .kind) Newline q))
           go false q =
               let x : isGap t ≡ false = sym g ∙ not-true gap n in
-              rw (tokens-first false m t h f e (λ k. true-false (eqb (t .kind) Newline) (eq-eqb (t .kind) Newline k) q), x)
+              rw (define-next false m s i t f e h (λ k. true-false (eqb (t .kind) Newline) (eq-eqb (t .kind) Newline k) q), x)
 
     module _ (ks : List ℕ) where
       pub default-newline : t .kind ≡ Newline → defaultIn s ks (tokens inDefinition s i) ≡ Torn
       unfolding defaultIn
-      default-newline k = rw (tokens-newline false m t h f e k)
+      default-newline k = rw (newline-stops false m s i t f e h k)
 
       module _ (k : t .kind ≡ Newline → ⊥) where
         first : defaultIn s ks (tokens inDefinition s i)
             ≡ byStep (stepAt s t ks) t (readOn s t)
         unfolding defaultIn
-        first = rw (tokens-first false m t h f e k)
+        first = rw (define-next false m s i t f e h k)
 
         pub default-done : stepAt s t ks ≡ done → defaultIn s ks (tokens inDefinition s i) ≡ Upto (t .at) (t .end)
         default-done p = first ∙ ap (λ (r : Step). byStep r t (readOn s t)) p

@@ -1,17 +1,17 @@
 -- Expanding step by step: a pending token written or replaced, and how it all ends from there.
 -- Assumes nothing.
 use Prim.Native.Nat.{ℕ, zero, suc, max, _+_, _-_, _<_, _≤_}
-use mathlib.Core.Bool.{Bool, true, false, cond, _||_}
+use mathlib.Core.Bool.{Bool, true, false}
 use mathlib.Core.List.{List, [], _∷_, _++_}
 use mathlib.Core.Path.{_≡_, refl, sym, ap, _∙_}
 use native.Mathlib.Nat.{add-zero, add-assoc, max-zero, le-of-suc-le-suc, not-suc-le-zero}
 use native.Mathlib.Omega.{arith}
-use lib.Dec.{eqb, leb}
+use lib.Dec.{leb}
 use lib.ListN.{length, getD, length-append}
 use borrow.Author.Tests.{le-ltb, leb-true, leb-false}
-use Rattle.lex.specs.Tokens.{inFile, Name, Escaped, Quote, Grave, Byte}
+use Rattle.lex.specs.Tokens.{inFile}
+use Rattle.lex.proofs.Tests.{true-false}
 use Rattle.lex.proofs.Progress.{token-at}
-use Rattle.names.specs.Names.{isDirective, barsText}
 use Rattle.definition.specs.Definitions.{Parameter, Macro, macro}
 use Rattle.sets.specs.Sets.{elem, insertAsc, members}
 use Rattle.store.specs.Stores.{macroText, find, macroAt}
@@ -23,7 +23,7 @@ use Rattle.writing.specs.declared.Wrote.{Wrote}
 use Rattle.writing.specs.declared.Wrote.the-variants as wrote
 use Rattle.writing.proofs.Laws.{text-length, text-append, fresh-append, map-append, sets-append, puts-text, puts-map}
 use Rattle.pending.specs.declared.Pend.{Pend}
-use Rattle.pending.specs.Pending.{Pending, fileFrom, View, blanks, calls, names, opens, closes, commas, bars, plain, byteView, graveView, isBlank, kindView, view}
+use Rattle.pending.specs.Pending.{Pending, fileFrom, View, blanks, calls, names, opens, closes, commas, bars, plain, view}
 use Rattle.pending.specs.References.{pendingBy, pendOf, blank, stacked}
 use Rattle.pending.specs.Sources.{itemsFrom}
 use Rattle.pending.proofs.Seeing.{from-out, from-more}
@@ -44,54 +44,13 @@ use Rattle.expand.specs.declared.Expanded.{Expanded}
 use Rattle.expand.specs.Expanding.{Outer, Expansion, ends, writing, replacing, Next, onGot, onPut, isCall, dealBy, writes, walk, onward, first, goesOn, expand}
 use Rattle.expand.specs.Standing.{Within, CalledBy, Accepts, AcceptedBy, leftOf, replacedTo, writtenTo, Puts, PutBy, ReplacedBy, restOf, stoppedAt, Final, finish, Stands, weightOf, Goes, SteppedBy, Ends, Expands}
 use Rattle.expand.proofs.Calling.{formalsOf, macro-in}
-
--- ---- a usage's view
-
--- v is no usage, or one of w
-abbrev Only : List ℕ → View → Type 0
-Only w v = isCall v ≡ true → v ≡ calls w
-
-never : {A : Type 0} → false ≡ true → A
-never e = let z : _≡_ {A = ℕ} 0 1 = cc in absurd (omega arith)
-
-only-no : (w : List ℕ) (v : View) → isCall v ≡ false → Only w v
-only-no w v e q = never (sym e ∙ q)
-
-only-if : (w : List ℕ) (t : Bool) (x y : View) → Only w x → Only w y → Only w (cond t x y)
-only-if w true x y f g = f
-only-if w false x y f g = g
-
-only-byte : (w : List ℕ) (b : ℕ) → Only w (byteView b)
-only-byte w b =
-    only-if w (eqb b 40) _ _ (only-no w _ refl)
-    (only-if w (eqb b 91) _ _ (only-no w _ refl)
-    (only-if w (eqb b 123) _ _ (only-no w _ refl)
-    (only-if w (eqb b 41 || (eqb b 93 || eqb b 125)) _ _ (only-no w _ refl)
-    (only-if w (eqb b 44) _ _ (only-no w _ refl)
-    (only-no w _ refl)))))
-
-only-grave : (w : List ℕ) → Only w (graveView w)
-only-grave w = only-if w (barsText w) _ _ (only-no w _ refl) (only-if w (isDirective w) _ _ (only-no w _ refl) (λ e. refl))
-
-only-kind : (k b : ℕ) (w : List ℕ) → Only w (kindView k b w)
-unfolding kindView
-only-kind k b w =
-    only-if w (isBlank k) _ _ (only-no w _ refl)
-    (only-if w (eqb k Name || eqb k Escaped) _ _ (only-no w _ refl)
-    (only-if w (eqb k Quote) _ _ (only-no w _ refl)
-    (only-if w (eqb k Grave) _ _ (only-grave w)
-    (only-if w (eqb k Byte) _ _ (only-byte w b)
-    (only-no w _ refl)))))
-
-usage-view : (s b : List ℕ) (p : Pend) → isCall (view (pendingBy s b p)) ≡ true → view (pendingBy s b p) ≡ calls (pendingBy s b p .name)
-unfolding view pendingBy
-usage-view s b p = only-kind (p .kind) _ _
+use Rattle.expand.proofs.Naming.{usage-view}
 
 -- ---- the walk over the pending list
 
 deal-write : (v : View) (e : Expansion) (f : List ℕ → Expansion) → isCall v ≡ false → dealBy v e f ≡ e
 deal-write blanks e f q = refl
-deal-write (calls w) e f q = never (sym q)
+deal-write (calls w) e f q = true-false true refl q
 deal-write (names w) e f q = refl
 deal-write (opens c) e f q = refl
 deal-write (closes b) e f q = refl

@@ -1,6 +1,6 @@
 -- A run from its start: the first stage can go on, and what its end leaves is the outcome of the hand-over.
 -- Assumes nothing.
-use Prim.Native.Nat.{ℕ, max, _+_, _<_, _≤_}
+use Prim.Native.Nat.{ℕ, max, _+_, _≤_}
 use mathlib.Core.Bool.{true, false, cond}
 use mathlib.Core.List.{List, [], _++_}
 use mathlib.Core.Path.{_≡_, refl, sym, ap, subst, _∙_}
@@ -22,7 +22,7 @@ use Rattle.places.specs.Places.{newlines, lineAt, placeOf}
 use Rattle.blocks.specs.Stacks.{openIn}
 use Rattle.copying.specs.Cursors.{opening}
 use Rattle.copying.specs.Copying.{Reads}
-use Rattle.handover.specs.Entries.{blankEntry, allEntries, bodyOf}
+use Rattle.handover.specs.Entries.{blankEntry, bodyOf}
 use Rattle.handover.specs.Sizes.{HandOver, Rooms, isSound}
 use Rattle.handover.proofs.Laws.{entries-sound, entry-body, Sound, sound-facts}
 use Rattle.turns.specs.States.{Context, State}
@@ -49,10 +49,6 @@ unfolding lineAt newlines
 line-past s t f b h =
     let e : getD t f blankEntry ≡ blankEntry = List·getD-eq-default t blankEntry h in
     rw (e, take-nil b)
-
--- a file that there is
-pub body-small : (s : List ℕ) (t : List (List ℕ)) (f : ℕ) (b : List ℕ) → b ≡ bodyOf s t f → allEntries s t ≡ true → f < length t → length b ≤ 65535
-body-small s t f b e h l = rw e (entry-body s (getD t f blankEntry) (entries-sound s t f h l))
 
 -- ---- the start
 

@@ -28,11 +28,12 @@ use Rattle.expand.specs.Expanding.{isCall}
 use Rattle.expand.specs.Standing.{Accepts, AcceptedBy}
 use Rattle.expand.proofs.Calling.{formalsOf, macro-in}
 use Rattle.expand.proofs.Replacing.{stacked-drop, items-list}
+use Rattle.expand.proofs.Naming.{usage-view}
 use Rattle.passing.specs.Passing.{orNext, formalsOf as formals, barOf, foundFault, usageFault, faultOf, textFault}
 use Rattle.pass.specs.declared.Verdict.{Verdict}
 use Rattle.pass.specs.declared.Verdict.the-variants as verdict
 use Rattle.pass.specs.Judging.{verdictOf}
-use Rattle.pass.proofs.Naming.{usage-view, other-fault}
+use Rattle.pass.proofs.Others.{other-fault}
 
 pub verdict-good : (f : Option ℕ) → verdict.Good ≡ verdictOf f → f ≡ none
 verdict-good none e = refl

@@ -1,5 +1,5 @@
 pub mod Unfolding
-pub mod Naming
+pub mod Others
 pub mod Faults
 pub mod Using
 pub mod Macros

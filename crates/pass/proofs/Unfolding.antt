@@ -1,7 +1,7 @@
 -- The tokens of a stored text put as references from the end of a list on, the first one last.
 -- Assumes nothing.
 use Prim.Native.Nat.{ℕ, zero, suc, _+_, _-_, _<_, _≤_}
-use mathlib.Core.Bool.{Bool, true, false}
+use mathlib.Core.Bool.{Bool, false}
 use mathlib.Core.List.{List, [], _∷_, _++_, append-assoc, append-nil}
 use mathlib.Core.Path.{_≡_, refl, sym, ap, ap₂, _∙_}
 use native.Mathlib.Numerals.{add-one}
@@ -9,10 +9,11 @@ use native.Mathlib.Omega.{arith}
 use lib.ListN.{length, drop, getD, set, length-take, length-drop, length-set}
 use lib.Seq.{drop-cons, drop-set-lt, getD-set-same}
 use Rattle.text.specs.Bytes.{part}
-use Rattle.lex.specs.Tokens.{Quote, is, inText, between, marksAfter, modeAfter, tokenAt, tokens}
+use Rattle.lex.specs.Tokens.{inText, between, marksAfter, tokenAt, tokens}
 use Rattle.lex.specs.declared.Mode.{Mode}
 use Rattle.lex.specs.declared.Token.{Token}
-use Rattle.lex.proofs.Listing.{tokens-on, tokens-out}
+use Rattle.lex.proofs.Listing.{tokens-out}
+use Rattle.storing.proofs.Reading.{text-next as tokens-text}
 use Rattle.sets.specs.Sets.{members}
 use Rattle.sets.specs.declared.MacroSet.{MacroSet}
 use Rattle.packed.specs.declared.Record.{Record}
@@ -41,22 +42,12 @@ drop-put l k v h =
     drop-cons (set l a v) a blank (omega (arith, length-set l a v))
     ∙ ap₂ (λ (x : List ℕ) (y : List (List ℕ)). x ∷ y) (getD-set-same l a v blank i) (drop-set-lt (suc a) l a v (omega arith) ∙ ap (λ (n : ℕ). drop n l) e)
 
-mode-after : (marks : Bool) (t : Token) → modeAfter (between inText marks) t ≡ between inText (marksAfter marks t)
-mode-after marks t = go (is Quote t) refl
-  where
-    go : (b : Bool) → is Quote t ≡ b → modeAfter (between inText marks) t ≡ between inText (marksAfter marks t)
-    go true e = rw e
-    go false e = rw e
-
 -- the tokens of the text w from i on
 text-next : (w : List ℕ) (marks : Bool) (i : ℕ) (t : Token) → i < length w → t ≡ tokenAt (between inText marks) w i
     → textTokens w [] (tokens (between inText marks) w i) ≡ textToken w [] t ∷ textTokens w [] (tokens (between inText (marksAfter marks t)) w (t .end))
 unfolding textTokens
 text-next w marks i t h e =
-    ap (textTokens w [])
-    (tokens-on (between inText marks) w i h refl
-    ∙ ap (λ (u : Token). u ∷ tokens (modeAfter (between inText marks) u) w (u .end)) (sym e)
-    ∙ ap (λ (m : Mode). t ∷ tokens m w (t .end)) (mode-after marks t))
+    ap (textTokens w []) (tokens-text marks (between inText marks) w i t refl e h)
 
 text-out : (w : List ℕ) (marks : Bool) (i : ℕ) → length w ≤ i → textTokens w [] (tokens (between inText marks) w i) ≡ []
 unfolding textTokens

@@ -18,8 +18,9 @@ use Rattle.pending.specs.declared.Pend.{Pend}
 use Rattle.pending.specs.Pending.{View, blanks, calls, names, opens, closes, commas, bars, plain, view}
 use Rattle.pending.specs.References.{pendOf, pendingBy, blank, stacked}
 use Rattle.expand.specs.Expanding.{isCall}
+use Rattle.expand.proofs.Naming.{usage-view}
 use Rattle.passing.specs.Passing.{usedBy, usesOf, usesIn}
-use Rattle.pass.proofs.Naming.{usage-view, other-uses}
+use Rattle.pass.proofs.Others.{other-uses}
 
 -- ---- one more in a set
 

@@ -4,7 +4,7 @@ use Prim.Native.Nat.{ℕ, zero, suc, _+_, _<_}
 use mathlib.Core.Bool.{Bool, true, false, cond, not, _&&_, _||_}
 use mathlib.Core.Option.{Option, none, some}
 use mathlib.Core.List.{List, [], _∷_}
-use mathlib.Core.Path.{_≡_, refl, sym, ap, _∙_, subst}
+use mathlib.Core.Path.{_≡_, refl, ap, _∙_}
 use lib.Dec.{eqb, leb}
 use lib.ListN.{length, getD}
 use borrow.Author.Tests.{eqb-true, not-true}
@@ -18,16 +18,18 @@ use Rattle.lex.specs.Tokens.{inFile, String, Name, Escaped, Quote, Grave, Byte,
 use Rattle.lex.proofs.Tests.{by-test, and-left, and-right, true-false}
 use Rattle.lex.proofs.Progress.{token-at, token-ends}
 use Rattle.lex.proofs.Listing.{by-tokens}
-use Rattle.brackets.specs.Steps.{Step, on, done, torn, closing, ending-list, separating, stepOf}
+use Rattle.brackets.specs.Steps.{Step, on, done, torn, stepOf}
 use Rattle.afresh.specs.Judging.{isUnfit, isAccented, heldBy, unless, badHeld, badDefault}
 use Rattle.definition.specs.Definitions.{Parameter, parameter, Macro, macro}
 use Rattle.store.specs.Stores.{macroAt}
 use Rattle.genuine.specs.Fitness.{isTrimmed, fitStored, fitDefault, fitFormal, isNamed, fitParameters, fitName, fitMacro, allFit}
 use Rattle.genuine.proofs.Tests.{or-left, or-right, passed}
-use Rattle.pending.specs.Pending.{textToken, textTokens, View, blanks, names, opens, closes, commas, plain, byteView, isBlank, kindView, view}
+use Rattle.pending.specs.Pending.{textToken, textTokens, View, blanks, names, plain, byteView, isBlank, kindView, view}
 use Rattle.arguments.specs.Arguments.{keep, moveOf}
+use Rattle.arguments.proofs.Moves.{step-keeps}
 use Rattle.replace.specs.Replacing.{fallback}
 use Rattle.expand.specs.Expanding.{isCall}
+use Rattle.expand.proofs.Naming.{byte-quiet}
 use Rattle.passing.specs.Passing.{formalsOf}
 use Rattle.passing.specs.Chains.{noUsage}
 use Rattle.passing.proofs.Lists.{views, Shut, done as shut-done, more}
@@ -104,10 +106,6 @@ record Kept (v : View) (ks js : List ℕ) : Type 0 where
 on-same : (ks js : List ℕ) → on ks ≡ on js → ks ≡ js
 on-same ks js e = cc
 
--- a step that ends a default, or tears it, does not go on
-off-on : {A : Type 0} (s : Step) (js : List ℕ) → unless s (λ ks. false) ≡ true → s ≡ on js → A
-off-on s js h e = true-false (unless s (λ ks. false)) h (ap (λ (z : Step). unless z (λ ks. false)) e)
-
 module _ (js : List ℕ) where
   -- a token of this step, if these are due after it
   abbrev On : View → List ℕ → Step → Type 0
@@ -116,46 +114,9 @@ module _ (js : List ℕ) where
   goes-on : (v : View) (ks us : List ℕ) → moveOf v ks ≡ keep us → isCall v ≡ false → On v ks (on us)
   goes-on v ks us h q e = record { moves = h ∙ ap (λ (z : List ℕ). keep z) (on-same us js e); quiet = q }
 
-  comma-kept : (ks : List ℕ) → On commas ks (separating ks)
-  comma-kept [] e = off-on done js refl e
-  comma-kept (k ∷ ks) e = goes-on commas (k ∷ ks) (k ∷ ks) refl refl e
-
-  -- a closing bracket that is due
-  due-kept : (b k : ℕ) (ks : List ℕ) → On (closes b) (k ∷ ks) (cond (eqb b k) (on ks) torn)
-  due-kept b k ks = go (eqb b k) refl
-    where
-      go : (t : Bool) → eqb b k ≡ t → On (closes b) (k ∷ ks) (cond t (on ks) torn)
-      go true h e = goes-on (closes b) (k ∷ ks) ks (rw h) refl e
-      go false h e = off-on torn js refl e
-
-  list-kept : (ks : List ℕ) → On (closes 41) ks (ending-list ks)
-  list-kept [] e = off-on done js refl e
-  list-kept (k ∷ ks) e = due-kept 41 k ks e
-
-  closing-kept : (b : ℕ) (ks : List ℕ) → On (closes b) ks (closing b ks)
-  closing-kept b [] e = off-on torn js refl e
-  closing-kept b (k ∷ ks) e = due-kept b k ks e
-
   -- a byte that is a token
-  abbrev Byted : List ℕ → ℕ → Type 0
-  Byted ks b = On (byteView b) ks (stepOf b ks)
-
-  byte-kept : (b : ℕ) (ks : List ℕ) → Byted ks b
-  unfolding stepOf
-  byte-kept b ks = go (eqb b 44) (eqb b 41) (eqb b 93) (eqb b 125) (eqb b 40) (eqb b 91) (eqb b 123) refl refl refl refl refl refl refl
-    where
-      at : (n : ℕ) → eqb b n ≡ true → Byted ks n → Byted ks b
-      at n e h = subst (λ (x : ℕ). Byted ks x) (sym (eqb-true b n e)) h
-
-      go : (p q r s t u v : Bool) → eqb b 44 ≡ p → eqb b 41 ≡ q → eqb b 93 ≡ r → eqb b 125 ≡ s → eqb b 40 ≡ t → eqb b 91 ≡ u → eqb b 123 ≡ v → Byted ks b
-      go true q r s t u v e1 e2 e3 e4 e5 e6 e7 = at 44 e1 (comma-kept ks)
-      go false true r s t u v e1 e2 e3 e4 e5 e6 e7 = at 41 e2 (list-kept ks)
-      go false false true s t u v e1 e2 e3 e4 e5 e6 e7 = at 93 e3 (closing-kept 93 ks)
-      go false false false true t u v e1 e2 e3 e4 e5 e6 e7 = at 125 e4 (closing-kept 125 ks)
-      go false false false false true u v e1 e2 e3 e4 e5 e6 e7 = at 40 e5 (goes-on (opens 41) ks (41 ∷ ks) refl refl)
-      go false false false false false true v e1 e2 e3 e4 e5 e6 e7 = at 91 e6 (goes-on (opens 93) ks (93 ∷ ks) refl refl)
-      go false false false false false false true e1 e2 e3 e4 e5 e6 e7 = at 123 e7 (goes-on (opens 125) ks (125 ∷ ks) refl refl)
-      go false false false false false false false e1 e2 e3 e4 e5 e6 e7 = rw (e1, e2, e3, e4, e5, e6, e7) (goes-on plain ks ks refl refl)
+  byte-kept : (b : ℕ) (ks : List ℕ) → On (byteView b) ks (stepOf b ks)
+  byte-kept b ks e = record { moves = step-keeps b ks js e; quiet = byte-quiet b }
 
   -- a token by its kind, its first byte and its name
   kind-kept : (k b : ℕ) (w ks : List ℕ) → (eqb k Quote || eqb k Grave) ≡ false → On (kindView k b w) ks (cond (eqb k Byte) (stepOf b ks) (on ks))

@@ -1,20 +1,19 @@
 -- Demand 3 over whole flattenings, from what is known of each usage that a run meets.
 -- Assumes nothing.
-use Prim.Native.Nat.{ℕ, zero, suc, _+_, _≤_, max}
+use Prim.Native.Nat.{ℕ, zero, suc, _≤_}
 use mathlib.Core.Bool.{true}
-use mathlib.Core.List.{List, _++_, append-assoc}
-use mathlib.Core.Path.{_≡_, refl, ap, ap₂, sym, subst, _∙_}
+use mathlib.Core.List.{List}
+use mathlib.Core.Path.{_≡_, refl, ap, sym, subst, _∙_}
 use native.Mathlib.Omega.{arith}
 use Rattle.lex.proofs.Tests.{by-test}
 use Rattle.store.specs.Stores.{macroAt}
-use Rattle.writing.specs.Written.{Written}
 use Rattle.handover.specs.Entries.{allEntries}
 use Rattle.handover.specs.Sizes.{HandOver, Rooms, isSound}
 use Rattle.handover.proofs.Laws.{sound-facts}
 use Rattle.turns.specs.States.{Context, State, Made, nothing, Turn, more, stop, finished, Here}
 use Rattle.turns.specs.Usages.{outerOf, turnAt}
 use Rattle.turns.specs.Runs.{Run, onto, follow, runFor, runFrom, measure, Outcome, contextOf, startOf, flattened}
-use Rattle.turns.proofs.Running.{run-more}
+use Rattle.turns.proofs.Running.{run-more, onto-nothing, joined, onto-twice}
 use Rattle.passing.specs.Passing.{formalsOf}
 use Rattle.passing.specs.Chains.{chainFrom}
 use Rattle.passing.specs.Meeting.{Meets, expansionAt, Tame, Soft, Through, here, then, Part, Demand3}
@@ -24,37 +23,6 @@ use Rattle.passing.proofs.Depths.{TurnIn, turn-in, turn-met}
 use Rattle.passing.proofs.Heart.{heart}
 
 -- ---- what was made before a state
-
--- the run with another text, count and depth
-abbrev summed : Run → List Written → ℕ → ℕ → Run
-summed r t c d =
-    record {
-      text = t;
-      count = c;
-      depth = d;
-      number = r .number;
-      file = r .file;
-      byte = r .byte;
-      macros = r .macros;
-      settings = r .settings;
-    }
-
-onto-nothing : (r : Run) → r ≡ onto nothing r
-onto-nothing r =
-    let c : r .count ≡ 0 + r .count = omega arith in
-    let d : r .depth ≡ max 0 (r .depth) = omega arith in
-    ap₂ (summed r (r .text)) c d
-
-abbrev joined : Made → Made → Made
-joined m k = record { text = m .text ++ k .text; count = m .count + k .count; depth = max (m .depth) (k .depth) }
-
-onto-twice : (m k : Made) (r : Run) → onto m (onto k r) ≡ onto (joined m k) r
-onto-twice m k r =
-    let c : m .count + (k .count + r .count) ≡ (m .count + k .count) + r .count = omega arith in
-    let d : max (m .depth) (max (k .depth) (r .depth)) ≡ max (max (m .depth) (k .depth)) (r .depth) = omega arith in
-    ap₂ (summed r (m .text ++ (k .text ++ r .text))) c d
-    ∙ ap (λ (t : List Written). summed r t ((m .count + k .count) + r .count) (max (max (m .depth) (k .depth)) (r .depth)))
-    (sym (append-assoc (m .text) (k .text) (r .text)))
 
 -- the run from a state that it goes through is the rest of the whole
 pub part : (x : Context) (s₀ s : State) → allEntries (x .store) (x .table) ≡ true → Through x s₀ s → Part x s₀ s

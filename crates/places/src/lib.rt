@@ -24,7 +24,6 @@ pub fn newlines_in(w: &[u8]) -> usize
 
 // The line of the byte at `at`.
 pub fn line_at(s: &[u8], at: usize) -> usize
-    requires { ⌜ length (now s) ≤ 65535 ⌝ }
     ensures { λ r. ⌜ r ≡ lineAt (now (s .entry)) at ⌝ }
 {
     1 + newlines_in(part_of(s, 0, at))

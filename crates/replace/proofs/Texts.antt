@@ -11,13 +11,14 @@ use lib.Dec.{eqb}
 use lib.ListN.{length, take, drop, getD, length-take, length-drop}
 use borrow.Author.Tests.{eqb-true}
 use Rattle.text.specs.Bytes.{same, part}
-use Rattle.lex.specs.Tokens.{Name, Escaped, Quote, Grave, Byte, is, inText, between, marksAfter, modeAfter, nameOf, tokenAt, tokens}
+use Rattle.lex.specs.Tokens.{Name, Escaped, Quote, Grave, Byte, inText, between, marksAfter, nameOf, tokenAt, tokens}
 use Rattle.lex.specs.declared.Mode.{Mode}
 use Rattle.lex.specs.declared.Token.{Token}
 use Rattle.lex.proofs.Tests.{by-test, true-false}
-use Rattle.lex.proofs.Listing.{tokens-on, tokens-out}
+use Rattle.lex.proofs.Listing.{tokens-out}
 use Rattle.lex.proofs.Progress.{token-sound, token-ends}
 use Rattle.names.specs.Names.{isDirective, barsText}
+use Rattle.storing.proofs.Reading.{text-next as tokens-text}
 use Rattle.definition.specs.Definitions.{Parameter, parameter}
 use Rattle.sets.specs.Sets.{members}
 use Rattle.sets.specs.declared.MacroSet.{MacroSet}
@@ -183,13 +184,6 @@ stored-fits {b = b} {base = base} {w = w} h = let z : length w ≤ length b = pa
 
 -- ---- one token after the other
 
-mode-after : (marks : Bool) (t : Token) → modeAfter (between inText marks) t ≡ between inText (marksAfter marks t)
-mode-after marks t = go (is Quote t) refl
-  where
-    go : (b : Bool) → is Quote t ≡ b → modeAfter (between inText marks) t ≡ between inText (marksAfter marks t)
-    go true e = rw e
-    go false e = rw e
-
 text-out : (f : List ℕ → Option (List Pending)) (w set : List ℕ) (marks : Bool) (i : ℕ) → length w ≤ i
     → inPlace f (textTokens w set (tokens (between inText marks) w i)) ≡ []
 unfolding inPlace textTokens
@@ -200,11 +194,7 @@ text-next : (f : List ℕ → Option (List Pending)) (w set : List ℕ) (marks :
     ≡ imageOf (view (textToken w set t)) (textToken w set t) f ++ inPlace f (textTokens w set (tokens (between inText (marksAfter marks t)) w (t .end)))
 unfolding inPlace textTokens
 text-next f w set marks i t h e =
-    let q : tokens (between inText marks) w i ≡ t ∷ tokens (between inText (marksAfter marks t)) w (t .end) =
-    tokens-on (between inText marks) w i h refl
-    ∙ ap (λ (u : Token). u ∷ tokens (modeAfter (between inText marks) u) w (u .end)) (sym e)
-    ∙ ap (λ (m : Mode). t ∷ tokens m w (t .end)) (mode-after marks t) in
-    rw q
+    rw (tokens-text marks (between inText marks) w i t refl e h)
 
 take-own : (n : ℕ) (l : List ℕ) → take (length (take n l)) l ≡ take n l
 take-own zero l = refl

@@ -2,7 +2,7 @@
 -- Assumes nothing.
 use Prim.Native.Nat.{ℕ, zero, suc, max, _+_, _-_, _<_, _≤_}
 use mathlib.Core.Bool.{true}
-use mathlib.Core.List.{List, [], _∷_, _++_, append-assoc}
+use mathlib.Core.List.{List, [], _∷_}
 use mathlib.Core.Path.{_≡_, refl, sym, ap, subst, subst⁻¹, _∙_}
 use native.Mathlib.Nat.{add-zero, add-assoc, max-zero}
 use native.Mathlib.Omega.{arith}
@@ -23,7 +23,7 @@ use Rattle.turns.specs.Usages.{tokenTurn, lastTurn, frameTurn, turnAt}
 use Rattle.turns.specs.Leading.{Leads, here, then, standing}
 use Rattle.turns.specs.Runs.{Run, ends, onto, measure, runFrom}
 use Rattle.turns.proofs.Progress.{turn-falls}
-use Rattle.turns.proofs.Running.{run-more, run-stop, run-finished}
+use Rattle.turns.proofs.Running.{run-more, run-stop, run-finished, onto-nothing, onto-twice}
 use Rattle.reading.specs.Reading.{ReadsTo}
 use Rattle.running.specs.declared.stage.Stage.{Stage}
 use Rattle.running.specs.declared.stage.Step.{Step}
@@ -34,27 +34,11 @@ use Rattle.running.specs.Ending.{finish, ended, Advances, Finishes, Adva
 
 -- ---- several turns
 
-abbrev partsOf : List Written → ℕ → ℕ → Run → Run
-partsOf t c d r =
-    record { text = t; count = c; depth = d; number = r .number; file = r .file; byte = r .byte; macros = r .macros; settings = r .settings }
-
-same-parts : (t t′ : List Written) (c c′ d d′ : ℕ) (r : Run) → t ≡ t′ → c ≡ c′ → d ≡ d′ → partsOf t c d r ≡ partsOf t′ c′ d′ r
-same-parts t t′ c c′ d d′ r e f g = rw (e, f, g)
-
-onto-two : (ws ws′ : List Written) (r : Run) → onto (writes ws) (onto (writes ws′) r) ≡ onto (writes (ws ++ ws′)) r
-onto-two ws ws′ r =
-    same-parts (ws ++ (ws′ ++ r .text)) ((ws ++ ws′) ++ r .text) (0 + (0 + r .count)) (0 + r .count) (max 0 (max 0 (r .depth))) (max 0 (r .depth)) r
-    (simp append-assoc) (omega arith) (omega arith)
-
-onto-none : (r : Run) → r ≡ onto (writes []) r
-onto-none r =
-    same-parts (r .text) ([] ++ r .text) (r .count) (0 + r .count) (r .depth) (max 0 (r .depth)) r refl (omega arith) (omega arith)
-
 leads-run : (x : Context) {S S′ : State} {ws : List Written} → allEntries (x .store) (x .table) ≡ true → Leads x S ws S′
     → runFrom x S ≡ onto (writes ws) (runFrom x S′)
-leads-run x {S} ok here = onto-none (runFrom x S)
+leads-run x {S} ok here = onto-nothing (runFrom x S)
 leads-run x ok (then {s} {s₁} {s′} {ws} {ws′} e l) =
-    run-more x s s₁ (writes ws) ok e ∙ ap (onto (writes ws)) (leads-run x ok l) ∙ onto-two ws ws′ (runFrom x s′)
+    run-more x s s₁ (writes ws) ok e ∙ ap (onto (writes ws)) (leads-run x ok l) ∙ onto-twice (writes ws) (writes ws′) (runFrom x s′)
 
 leads-falls : (x : Context) {S S′ : State} {ws : List Written} → allEntries (x .store) (x .table) ≡ true → Leads x S ws S′
     → measure x (S′ .frames) ≤ measure x (S .frames)
@@ -139,7 +123,7 @@ end-run-is x limit B B′ ms z z′ (suc n) f p m e g st q c d =
     ∙ finish-onto B B′ z z′ m (ends (stateOf limit B ms z) (suc n) f p) q c d ∙ finish-ends limit B′ B ms z′ z (suc n) f p st
 end-run-is x limit B B′ ms z z′ zero f p m e g st q c d =
     let a : runFrom x (stateOf limit B ms z) ≡ onto m (ends (stateOf limit B ms z) 0 0 0) =
-    run-finished x (stateOf limit B ms z) e ∙ onto-none (ends (stateOf limit B ms z) 0 0 0)
+    run-finished x (stateOf limit B ms z) e ∙ onto-nothing (ends (stateOf limit B ms z) 0 0 0)
     ∙ ap (λ (k : Made). onto k (ends (stateOf limit B ms z) 0 0 0)) (sym (g refl .2)) in
     rw (g refl .0, g refl .1)
     (ap (finish B z) a ∙ finish-onto B B′ z z′ m (ends (stateOf limit B ms z) 0 0 0) q c d ∙ finish-ends limit B′ B ms z′ z 0 0 0 st)

@@ -1,12 +1,13 @@
--- The run turn by turn, without fuel.
+-- The run turn by turn, without fuel, and what turns make one after the other.
 -- Assumes nothing.
-use Prim.Native.Nat.{ℕ, zero, suc, _-_, _<_, _≤_}
+use Prim.Native.Nat.{ℕ, zero, suc, max, _+_, _-_, _<_, _≤_}
 use mathlib.Core.Bool.{true}
-use mathlib.Core.List.{List, [], _∷_}
-use mathlib.Core.Path.{_≡_, refl, ap, _∙_}
+use mathlib.Core.List.{List, [], _∷_, _++_, append-assoc}
+use mathlib.Core.Path.{_≡_, refl, sym, ap, ap₂, _∙_}
 use native.Mathlib.Omega.{arith}
+use Rattle.writing.specs.Written.{Written}
 use Rattle.handover.specs.Entries.{allEntries}
-use Rattle.turns.specs.States.{Context, Frame, State, Made, Turn, more, stop, finished}
+use Rattle.turns.specs.States.{Context, Frame, State, Made, nothing, Turn, more, stop, finished}
 use Rattle.turns.specs.Usages.{turnAt}
 use Rattle.turns.specs.Runs.{Run, ends, onto, follow, runFor, measure, runFrom}
 use Rattle.turns.proofs.Progress.{turn-falls}
@@ -57,3 +58,36 @@ run-stop x s n f p m e =
 pub run-finished : (x : Context) (s : State) → turnAt x s ≡ finished → runFrom x s ≡ ends s 0 0 0
 run-finished x s e =
     run-first x s ∙ ap (λ (t : Turn). follow s t (λ r. runFor (measure x (s .frames) - 1) x r)) e
+
+-- ---- what was made before a run
+
+-- the run with another text, count and depth
+abbrev summed : Run → List Written → ℕ → ℕ → Run
+summed r t c d =
+    record {
+      text = t;
+      count = c;
+      depth = d;
+      number = r .number;
+      file = r .file;
+      byte = r .byte;
+      macros = r .macros;
+      settings = r .settings;
+    }
+
+pub onto-nothing : (r : Run) → r ≡ onto nothing r
+onto-nothing r =
+    let c : r .count ≡ 0 + r .count = omega arith in
+    let d : r .depth ≡ max 0 (r .depth) = omega arith in
+    ap₂ (summed r (r .text)) c d
+
+abbrev pub joined : Made → Made → Made
+joined m k = record { text = m .text ++ k .text; count = m .count + k .count; depth = max (m .depth) (k .depth) }
+
+pub onto-twice : (m k : Made) (r : Run) → onto m (onto k r) ≡ onto (joined m k) r
+onto-twice m k r =
+    let c : m .count + (k .count + r .count) ≡ (m .count + k .count) + r .count = omega arith in
+    let d : max (m .depth) (max (k .depth) (r .depth)) ≡ max (max (m .depth) (k .depth)) (r .depth) = omega arith in
+    ap₂ (summed r (m .text ++ (k .text ++ r .text))) c d
+    ∙ ap (λ (t : List Written). summed r t ((m .count + k .count) + r .count) (max (max (m .depth) (k .depth)) (r .depth)))
+    (sym (append-assoc (m .text) (k .text) (r .text)))

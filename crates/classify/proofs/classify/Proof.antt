@@ -5,7 +5,7 @@ use mathlib.Core.Path.{_≡_}
 use lib.Dec.{ltb}
 use borrow.Author.Tests.{ltb-false}
 use borrow.Author.Needs.{needs}
-use Rattle.classify.specs.Answer.{lineAt, outcomeOf}
+use Rattle.classify.specs.Answer.{refusedLine, outcomeOf}
 use Rattle.classify.proofs.classify.Statement.{statement}
 use Rattle.classify.proofs.classify.Tie as tie
 
@@ -14,7 +14,7 @@ or-right true b e = cc
 or-right false b e = e
 
 returns : tie.Need-returns
-unfolding lineAt outcomeOf
+unfolding refusedLine outcomeOf
 returns c = record { answer = rw (c .if1 .taken); list = rw (c .if1 .taken) }
 
 classify-taken-requires : tie.Need-classify-taken-requires

@@ -2,23 +2,20 @@
 -- Assumes nothing.
 use borrow.Author.Tests.{le-leb, lt-leb}
 use borrow.Author.Needs.{needs}
-use Rattle.classify.specs.Answer.{lineAt}
+use Rattle.classify.specs.Answer.{refusedLine}
 use Rattle.classify.proofs.line_of.Statement.{statement}
 use Rattle.classify.proofs.line_of.Tie as tie
 
 returns : tie.Need-returns
-unfolding lineAt
+unfolding refusedLine
 returns c = rw (le-leb _ _ (c .if1 .taken))
 
-count-newlines-requires : tie.Need-count-newlines-requires
-count-newlines-requires c κs = search needs
-
-add-result : tie.Need-add-result
-add-result c = search needs
+line-at-requires : tie.Need-line-at-requires
+line-at-requires c κs = search needs
 
 returns-2 : tie.Need-returns-2
-unfolding lineAt
-returns-2 c = rw (lt-leb _ _ (c .before .if1 .left), ← c .count-newlines .ensures .count)
+unfolding refusedLine
+returns-2 c = rw (lt-leb _ _ (c .before .if1 .left)) (c .line-at .ensures)
 
 pub line-of-spec : {M : Type 1} → statement M
-line-of-spec = tie.close (tie.spec returns count-newlines-requires add-result returns-2)
+line-of-spec = tie.close (tie.spec returns line-at-requires returns-2)

@@ -5,7 +5,7 @@ use mathlib.Core.Path.{ap, _∙_}
 use Prim.Native.Nat.{ℕ}
 use borrow.Author.Needs.{needs}
 use Rattle.places.specs.Places.{lineAt}
-use Rattle.flatten.proofs.Whole.{line-none, line-some, line-past, body-small}
+use Rattle.flatten.proofs.Whole.{line-none, line-some, line-past}
 use Rattle.flatten.proofs.refused_line.Statement.{statement}
 use Rattle.flatten.proofs.refused_line.Tie as tie
 
@@ -19,7 +19,7 @@ body-at-requires : tie.Need-body-at-requires
 body-at-requires c κs = search needs
 
 line-at-requires : tie.Need-line-at-requires
-line-at-requires c κs = body-small _ _ _ _ (c .body-at .ensures) (c .before .before .before .before .pre) (c .before .if2 .left)
+line-at-requires c κs = search needs
 
 returns-3 : tie.Need-returns-3
 returns-3 c = line-some _ _ _ (c .before .before .before .if1 .left) (c .line-at .ensures ∙ ap (λ (s : List ℕ). lineAt s (c .before .before .before .before .before .args .b)) (c .before .body-at .ensures))

@@ -320,17 +320,17 @@ module _ (o : Outer) (ms : List Macro) (limit : ℕ) (w s : List ℕ) (at : ℕ)
   expands-refused {k} {p} f a =
       rw f (ends-stopped 0 text map z (ends k p (roomOf (length text) (length map) (z .spot))) k p (roomOf (length text) (length map) (z .spot)) refl a)
 
-  module _ {q : List Pending} {e : ℕ} (f : first ms w s at ≡ got q (fileFrom s e)) (h : e ≤ length s) (b : List ℕ) (l l′ : List (List ℕ)) where
-    expands-ended : (t : Turn) {k p : ℕ} {r : Expanded} → t ≡ turn.Ended k p → PutBy t s b l′ q (stacked s b l 0) limit z → r ≡ stoppedAt k p e z → Expands o ms limit w s at text text map map z r
-    unfolding expand stacked
+  module _ {q : List Pending} {e : ℕ} (f : first ms w s at ≡ got q (fileFrom s e)) (h : e ≤ length s) (b : List ℕ) (l′ : List (List ℕ)) where
+    expands-ended : (t : Turn) {k p : ℕ} {r : Expanded} → t ≡ turn.Ended k p → PutBy t s b l′ q [] limit z → r ≡ stoppedAt k p e z → Expands o ms limit w s at text text map map z r
+    unfolding expand
     expands-ended t {k} {p} c u a =
         let room : Room = roomOf (length text) (length map) (z .spot) in
         let v : PutBy (turn.Ended k p) s b l′ q [] limit z = rw c at u in
         rw (f, goes-on s q e h) (ends-stopped e text map z (onward (leftOf limit z) o ms q [] room) k p room (v o ms room) a)
 
-    expands-run : (t : Turn) {y : Stand} {text′ map′ : List ℕ} {r : Expanded} → t ≡ turn.On y → PutBy t s b l′ q (stacked s b l 0) limit z
+    expands-run : (t : Turn) {y : Stand} {text′ map′ : List ℕ} {r : Expanded} → t ≡ turn.On y → PutBy t s b l′ q [] limit z
         → Ends e text text′ map map′ y (restOf o ms s b l′ limit text map y) r → Expands o ms limit w s at text text′ map map′ z r
-    unfolding expand stacked
+    unfolding expand
     expands-run t {y} c u i =
         let v : Puts s b l′ q [] limit z y = rw c at u in
         rw (f, goes-on s q e h) (ends-same (finish-onward e o ms s b l′ q [] limit text map z y v) i)
@@ -374,23 +374,23 @@ module _ (s w b : List ℕ) (at : ℕ) (records : List (List ℕ)) (macros : ℕ
           unplaced = g .unplaced;
         }
 
-    module _ {put-set : List ℕ} (none-too : put-set ≡ []) (t : Turn) (l′ : List (List ℕ)) (limit : ℕ) (z : Stand)
+    module _ (t : Turn) (l′ : List (List ℕ)) (limit : ℕ) (z : Stand)
         (put : (fs : List Parameter) (x : List ℕ) (xs : List (List Pending)) → MacroIn b q fs x → given ≡ length xs
-        → Ranged (itemsFrom s b l 0 true) (length s) ranges xs → PutBy t s b l′ (textWith (insertAsc i put-set) fs (tidyAll xs) x) (stacked s b l 0) limit z) where
-      put-new : (ms : List Macro) (h : Holds ms b records macros) → PutBy t s b l′ (new ms h) (stacked s b l 0) limit z
+        → Ranged (itemsFrom s b l 0 true) (length s) ranges xs → PutBy t s b l′ (textWith (insertAsc i []) fs (tidyAll xs) x) [] limit z) where
+      put-new : (ms : List Macro) (h : Holds ms b records macros) → PutBy t s b l′ (new ms h) [] limit z
       put-new ms h =
           let g = list-of ms h in
-          rw none-too at (put (formalsOf (macroAt ms i)) (macroText (macroAt ms i)) (g .arguments) (held ms h) (g .count) (g .ranged))
+          put (formalsOf (macroAt ms i)) (macroText (macroAt ms i)) (g .arguments) (held ms h) (g .count) (g .ranged)
 
       pub usage-stands : {y : Stand} {text map : List ℕ} → Stored b records macros → t ≡ turn.On y → Within text map (z .spot) → Stands text map y
       usage-stands {y} m f d =
-          let u : Puts s b l′ (new (m .macros) (m .holds)) (stacked s b l 0) limit z y = rw f at (put-new (m .macros) (m .holds)) in
+          let u : Puts s b l′ (new (m .macros) (m .holds)) [] limit z y = rw f at (put-new (m .macros) (m .holds)) in
           rw (u .stand) (record { few = u .few; spot = d })
 
       module _ (o : Outer) (ms : List Macro) (h : Holds ms b records macros) (text map : List ℕ) where
         pub usage-ended : {k p : ℕ} {r : Expanded} → t ≡ turn.Ended k p → r ≡ stoppedAt k p next z → Expands o ms limit w s at text text map map z r
-        usage-ended f x = expands-ended o ms limit w s at text map z (replaced ms h) (list-of ms h .within) b l l′ t f (put-new ms h) x
+        usage-ended f x = expands-ended o ms limit w s at text map z (replaced ms h) (list-of ms h .within) b l′ t f (put-new ms h) x
 
         pub usage-run : {y : Stand} {text′ map′ : List ℕ} {r : Expanded} → t ≡ turn.On y → Ends next text text′ map map′ y (restOf o ms s b l′ limit text map y) r
             → Expands o ms limit w s at text text′ map map′ z r
-        usage-run f x = expands-run o ms limit w s at text map z (replaced ms h) (list-of ms h .within) b l l′ t f (put-new ms h) x
+        usage-run f x = expands-run o ms limit w s at text map z (replaced ms h) (list-of ms h .within) b l′ t f (put-new ms h) x

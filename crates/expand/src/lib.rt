@@ -502,6 +502,40 @@ fn run<'a>(
     }
 }
 
+// Puts the text of macro `i`, for a usage in the file, on an empty pending list: 18, 17.
+fn put_first<'a>(
+    s: &'a [u8],
+    b: &'a [u8],
+    q: Record,
+    i: usize,
+    list: &mut [[u64; 9]],
+    ranges: &mut [[usize; 4]],
+    given: usize,
+    limit: usize,
+    out: &mut [[u64; 9]],
+    z: Stand,
+) -> Turn
+    requires { ⌜ PutsIn (now b) q i (now list) 0 0 (now ranges) (now out) × UsageIn (now b) q (itemsFrom (now s) (now b) (now list) 0 true) (length (now s)) (now ranges) given ⌝ }
+    ensures { λ r. ⌜ ((fs : List Parameter) (t : List ℕ) (xs : List (List Pending)) → MacroIn (now (b .entry)) q fs t → given ≡ length xs → Ranged (itemsFrom (now (s .entry)) (now (b .entry)) (now (list .entry)) 0 true) (length (now (s .entry))) (now (ranges .entry)) xs → PutBy r (now (s .entry)) (now (b .entry)) (now (list .exit)) (textWith (insertAsc i []) fs (tidyAll xs) t) [] limit z) ⌝ }
+{
+    put_in(
+        s,
+        b,
+        q,
+        i,
+        list,
+        0,
+        true,
+        0,
+        ranges,
+        given,
+        sets::empty(),
+        limit,
+        out,
+        z,
+    )
+}
+
 // Expands the usage of `w` whose word ends at `at` of the file `s`.
 pub fn expand<'a>(
     s: &'a [u8],
@@ -534,22 +568,7 @@ pub fn expand<'a>(
             let f = accept(s, b, q, list, 0, true, at, ranges, stack);
             match f {
                 Sought::List(given, e) => {
-                    let t = put_in(
-                        s,
-                        b,
-                        q,
-                        i,
-                        list,
-                        0,
-                        true,
-                        0,
-                        ranges,
-                        given,
-                        sets::empty(),
-                        limit,
-                        out,
-                        z,
-                    );
+                    let t = put_first(s, b, q, i, list, ranges, given, limit, out, z);
                     match t {
                         Turn::On(y) => run(
                             s,

@@ -3,6 +3,8 @@
 // first; a definition or a text is a number and so many bytes.
 // Printed are what each definition answers, and of the usage: refusal, its place, where the file goes on, replacements, deepest
 // nesting; the map entries; the text; and how much behind both is not as lent.
+ghost use mathlib.Core.Path.{_≡_};
+ghost use mathlib.Core.Bool.{true};
 ghost use Prim.Native.Nat.{_<_, _≤_};
 ghost use lib.ListN.{length};
 ghost use Rattle.store.specs.Buffers.{Stored};
@@ -115,6 +117,22 @@ fn print_answer(r: Expanded, text: &[u8], map: &[u32]) {
     say(b"\n");
 }
 
+// The stand before anything is written.
+fn start() -> Stand
+    ensures { λ r. ⌜ r ≡ record { depth = 0; count = 0; deepest = 0; spot = record { written = 0; lines = 0; fresh = true } } ⌝ }
+{
+    Stand {
+        depth: 0,
+        count: 0,
+        deepest: 0,
+        spot: Spot {
+            written: 0,
+            lines: 0,
+            fresh: true,
+        },
+    }
+}
+
 // Expands the usage that the file `f` begins with, in line 1 of file 0.
 fn run_usage<'a>(
     f: &'a [u8],
@@ -137,16 +155,6 @@ fn run_usage<'a>(
     let mut ranges = [[0usize; 4]; 256];
     let mut stack = [0u8; 16384];
     let t = token_at(f, 0, in_file());
-    let z = Stand {
-        depth: 0,
-        count: 0,
-        deepest: 0,
-        spot: Spot {
-            written: 0,
-            lines: 0,
-            fresh: true,
-        },
-    };
     let r = expand::expand(
         f,
         t.end,
@@ -165,7 +173,7 @@ fn run_usage<'a>(
         work,
         text,
         map,
-        z,
+        start(),
     );
     print_answer(r, text, map);
 }

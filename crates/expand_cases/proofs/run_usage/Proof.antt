@@ -63,21 +63,24 @@ slice-aggregate-expand-5 c = search needs
 slice-aggregate-expand-6 : tie.Need-slice-aggregate-expand-6
 slice-aggregate-expand-6 c = search needs
 
+start-requires : tie.Need-start-requires
+start-requires c κs = search needs
+
 expand-requires : tie.Need-expand-requires
 expand-requires c κs = (
-  first-within _ _ _ (c .before .before .before .before .before .before .before .before .before .before .token-at .ensures),
-  record { in-text = omega arith; in-map = omega arith },
+  first-within _ _ _ (c .before .before .before .before .before .before .before .before .before .before .before .token-at .ensures),
+  rw (c .start .ensures) (record { in-text = omega arith; in-map = omega arith }),
   record {
-    file-small = c .before .before .before .before .before .before .before .before .before .before .before .before .if1 .left;
-    bytes-small = c .before .before .before .before .before .before .before .before .before .before .before .before .before .before .before .before .before .before .pre .0;
-    few-macros = c .before .before .before .before .before .before .before .before .before .before .before .before .before .before .before .before .before .before .pre .1;
-    stored = c .before .before .before .before .before .before .before .before .before .before .before .before .before .before .before .before .before .before .pre .2;
+    file-small = c .before .before .before .before .before .before .before .before .before .before .before .before .before .if1 .left;
+    bytes-small = c .before .before .before .before .before .before .before .before .before .before .before .before .before .before .before .before .before .before .before .pre .0;
+    few-macros = c .before .before .before .before .before .before .before .before .before .before .before .before .before .before .before .before .before .before .before .pre .1;
+    stored = c .before .before .before .before .before .before .before .before .before .before .before .before .before .before .before .before .before .before .before .pre .2;
     list-lent = as-long 1024 _ (length-replicate 1024 (replicate {A = ℕ} 9 0));
     out-lent = as-long 1024 _ (length-replicate 1024 (replicate {A = ℕ} 9 0));
     ranges-lent = as-long 256 _ (length-replicate 256 (replicate {A = ℕ} 4 0));
     brackets-lent = as-long 16384 _ (length-replicate {A = ℕ} 16384 0);
   },
-  c .before .before .before .before .before .before .before .before .before .before .before .before .before .before .before .before .before .before .pre .3,
+  c .before .before .before .before .before .before .before .before .before .before .before .before .before .before .before .before .before .before .before .pre .3,
 )
 
 print-answer-requires : tie.Need-print-answer-requires
@@ -111,6 +114,7 @@ run-usage-spec =
     slice-aggregate-expand-4
     slice-aggregate-expand-5
     slice-aggregate-expand-6
+    start-requires
     expand-requires
     print-answer-requires
     same-length

@@ -11,6 +11,7 @@ use lib.Dec.{eqb}
 use lib.ListN.{length, getD, drop, set, length-set, drop-of-length-le}
 use lib.Seq.{drop-cons, sets}
 use Rattle.places.specs.Places.{newlines}
+use Rattle.places.proofs.Lines.{newlines-cons}
 use Rattle.writing.specs.declared.Spot.{Spot}
 use Rattle.writing.specs.declared.Wrote.{Wrote}
 use Rattle.writing.specs.declared.Wrote.the-variants.{Upto, Full}
@@ -45,17 +46,13 @@ module _ {w text₀ : List ℕ} {n : ℕ} {text : List ℕ} {i : ℕ} (r : Filli
 
 -- ---- bytes without a newline
 
-unfold-newlines : (b : ℕ) (bs : List ℕ) → newlines (b ∷ bs) ≡ cond (eqb b 10) (suc (newlines bs)) (newlines bs)
-unfolding newlines
-unfold-newlines b bs = refl
-
 none-of : (t : Bool) (n : ℕ) → cond t (suc n) n ≡ 0 → (t ≡ false) × (n ≡ 0)
 none-of true n h = absurd (omega arith)
 none-of false n h = (refl, h)
 
 -- neither the first byte nor those behind it
 no-newline : (b : ℕ) (bs : List ℕ) → newlines (b ∷ bs) ≡ 0 → (eqb b 10 ≡ false) × (newlines bs ≡ 0)
-no-newline b bs e = none-of (eqb b 10) (newlines bs) (sym (unfold-newlines b bs) ∙ e)
+no-newline b bs e = none-of (eqb b 10) (newlines bs) (sym (newlines-cons b bs) ∙ e)
 
 -- their places are the same whatever the step
 plain-step : (step p : ℕ) (w : List ℕ) → newlines w ≡ 0 → placed 0 p w ≡ placed step p w

@@ -15,6 +15,7 @@ use Rattle.brackets.specs.Stacks.{stackOf, SteppedBy}
 use Rattle.brackets.specs.declared.Stepped.{Stepped}
 use Rattle.brackets.specs.declared.Stepped.the-variants as stepped
 use Rattle.brackets.proofs.Stacking.{full-more, stepped-on, stepped-done, stepped-torn, stepped-short}
+use Rattle.storing.proofs.Reading.{token-past}
 use Rattle.definition.specs.declared.Ending.{Ending}
 use Rattle.definition.specs.declared.Ending.the-variants as ending
 use Rattle.definition.specs.declared.FormalRead.{FormalRead}
@@ -23,7 +24,7 @@ use Rattle.definition.specs.Heads.{gapEnd, nextAt}
 use Rattle.definition.specs.Lists.{stepAt, defaultIn, defaultEnd, givenFormal, formalBy, formalAt}
 use Rattle.definition.specs.Answers.{Settled, full, over}
 use Rattle.definition.proofs.Settling.{full-lent, settled-through}
-use Rattle.definition.proofs.Reading.{token-goes, default-out, default-newline, default-on, default-done, default-torn}
+use Rattle.definition.proofs.Reading.{default-out, default-newline, default-on, default-done, default-torn}
 
 -- the default that starts at `from` is read up to i, `depth` brackets are due, in bytes lent as `lent`
 pub record Due (s : List ℕ) (from : ℕ) (lent work : List ℕ) (i depth : ℕ) : Type 0 where
@@ -53,7 +54,7 @@ module _ {s lent work : List ℕ} {from i depth : ℕ} (d : Due s from lent work
       pub due-next : (n : ℕ) → r ≡ stepped.On n → length work′ ≡ length work → Due s from lent work′ (t .end) n
       due-next n q l =
           let p = stepped-on r (stepAt s t (stackOf work depth)) work work′ depth b n q in
-          let g : i < t .end = token-goes s i false m t h f e in
+          let g : i < t .end = token-past m s i t e h in
           record {
             same = omega arith;
             fits = omega arith;

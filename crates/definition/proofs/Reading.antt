@@ -14,7 +14,6 @@ use Rattle.lex.specs.declared.Token.{Token}
 use Rattle.lex.specs.Tokens.{inDefinition, between, White, Newline, LineComment, BlockComment, Quote, Continuation, isGap, marksAfter, tokenAt, tokens}
 use Rattle.lex.specs.Faults.{faultOf, worseOf}
 use Rattle.lex.proofs.Tests.{true-false}
-use Rattle.lex.proofs.Progress.{token-ends}
 use Rattle.lex.proofs.Listing.{tokens-out}
 use Rattle.brackets.specs.Steps.{Step, on, done, torn}
 use Rattle.storing.proofs.Reading.{newline-stops, define-next}
@@ -65,24 +64,17 @@ module _ (s : List ℕ) (i : ℕ) where
   default-out ks h = rw (tokens-out inDefinition s i h)
 
   -- t: the token at i, as the code reads it
-  module _ (marks : Bool) (m : Mode) (t : Token) (h : i < length s) (f : m ≡ between inDefinition marks) (e : t ≡ tokenAt m s i) where
-    same-token : tokenAt (between inDefinition marks) s i ≡ t
-    same-token = rw (e, f)
+  module _ (marks : Bool) (m : Mode) (t : Token) (h : i < length s) (f : m ≡ between inDefinition marks) (e : t ≡ tokenAt m s i) (bars mark : Fault) where
+    pub extent-newline : t .kind ≡ Newline
+        → extentIn i bars mark (tokens (between inDefinition marks) s i) ≡ record { end = i; bars = bars; mark = mark }
+    unfolding extentIn
+    extent-newline k = rw (newline-stops marks m s i t f e h k)
 
-    pub token-goes : i < t .end
-    token-goes = rw (← same-token) (token-ends (between inDefinition marks) s i h)
-
-    module _ (bars mark : Fault) where
-      pub extent-newline : t .kind ≡ Newline
-          → extentIn i bars mark (tokens (between inDefinition marks) s i) ≡ record { end = i; bars = bars; mark = mark }
-      unfolding extentIn
-      extent-newline k = rw (newline-stops marks m s i t f e h k)
-
-      -- what bars the token, the worse, the mark, and whether quote marks are open past it
-      pub extent-on : (t .kind ≡ Newline → ⊥) → (a g d : Fault) (n : Bool) → a ≡ faultOf t → g ≡ worseOf bars a → d ≡ markOf mark t → n ≡ marksAfter marks t
-          → extentIn i bars mark (tokens (between inDefinition marks) s i) ≡ extentIn (t .end) g d (tokens (between inDefinition n) s (t .end))
-      unfolding extentIn
-      extent-on k a g d n p q x y = rw (define-next marks m s i t f e h k, q, p, x, y)
+    -- what bars the token, the worse, the mark, and whether quote marks are open past it
+    pub extent-on : (t .kind ≡ Newline → ⊥) → (a g d : Fault) (n : Bool) → a ≡ faultOf t → g ≡ worseOf bars a → d ≡ markOf mark t → n ≡ marksAfter marks t
+        → extentIn i bars mark (tokens (between inDefinition marks) s i) ≡ extentIn (t .end) g d (tokens (between inDefinition n) s (t .end))
+    unfolding extentIn
+    extent-on k a g d n p q x y = rw (define-next marks m s i t f e h k, q, p, x, y)
 
   module _ (m : Mode) (t : Token) (h : i < length s) (f : m ≡ inDefinition) (e : t ≡ tokenAt m s i) where
     -- past what is no quote mark the tokens are read as before it

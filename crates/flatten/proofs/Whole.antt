@@ -26,7 +26,7 @@ use Rattle.handover.specs.Entries.{blankEntry, bodyOf}
 use Rattle.handover.specs.Sizes.{HandOver, Rooms, isSound}
 use Rattle.handover.proofs.Laws.{entries-sound, entry-body, Sound, sound-facts}
 use Rattle.turns.specs.States.{Context, State}
-use Rattle.turns.specs.Runs.{Run, runFrom, measure, contextOf, startOf, Outcome, outcomeOf, notTaken, flattened}
+use Rattle.turns.specs.Runs.{Run, runFrom, measure, contextOf, startOf, Outcome, lineOf, outcomeOf, notTaken, flattened}
 use Rattle.turns.proofs.Rooms.{Fits, run-fits}
 use Rattle.running.specs.declared.stage.Stage.{Stage}
 use Rattle.running.specs.declared.stage.Last.{Last}
@@ -117,7 +117,7 @@ told s t f =
     record {
       number = f .number;
       file = f .file;
-      line = cond (eqb (f .number) 0) 0 (lineAt (bodyOf s t (f .file)) (f .byte));
+      line = lineOf s t (f .number) (f .file) (f .byte);
       byte = f .byte;
       written = f .spot .written;
       lines = f .spot .lines;

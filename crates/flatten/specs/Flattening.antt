@@ -2,19 +2,17 @@
 -- Assumes nothing.
 use Prim.Native.Nat.{ℕ, _<_, _≤_}
 use mathlib.Core.Path.{_≡_}
-use mathlib.Core.Bool.{true, false, cond}
+use mathlib.Core.Bool.{true, false}
 use mathlib.Core.List.{List, _++_}
-use lib.Dec.{eqb}
 use lib.ListN.{length, drop}
 use Rattle.definition.specs.Definitions.{Macro}
 use Rattle.store.specs.Stores.{encode}
 use Rattle.store.specs.Buffers.{Holds, Stored}
 use Rattle.settings.specs.Settings.{resetTo}
-use Rattle.places.specs.Places.{lineAt}
 use Rattle.copying.specs.Cursors.{opening}
-use Rattle.handover.specs.Entries.{allEntries, bodyOf}
+use Rattle.handover.specs.Entries.{allEntries}
 use Rattle.handover.specs.Sizes.{HandOver, Rooms, isSound}
-use Rattle.turns.specs.Runs.{Outcome, flattened}
+use Rattle.turns.specs.Runs.{Outcome, lineOf, flattened}
 use Rattle.running.specs.declared.stage.Stage.{Stage}
 use Rattle.running.specs.declared.stage.Last.{Last}
 use Rattle.flatten.specs.declared.Flattened.{Flattened}
@@ -64,7 +62,7 @@ answerFrom s t ms l =
     record {
       number = l .number;
       file = l .file;
-      line = cond (eqb (l .number) 0) 0 (lineAt (bodyOf s t (l .file)) (l .byte));
+      line = lineOf s t (l .number) (l .file) (l .byte);
       byte = l .byte;
       written = l .stage .spot .written;
       lines = l .stage .spot .lines;

@@ -1,15 +1,11 @@
 // Flatten (document 01): files to one text with its map, the macros and the directive state, or one refusal.
 ghost use mathlib.Core.Path.{_≡_};
-ghost use mathlib.Core.Bool.{true, cond};
 ghost use mathlib.Core.List.{List};
 ghost use Prim.Native.Nat.{ℕ};
-ghost use lib.Dec.{eqb};
-ghost use Rattle.places.specs.Places.{lineAt};
-ghost use Rattle.handover.specs.Entries.{allEntries, bodyOf};
 ghost use Rattle.definition.specs.Definitions.{Macro};
 ghost use Rattle.store.specs.Buffers.{Holds};
 ghost use Rattle.macros.specs.Starting.{started};
-ghost use Rattle.turns.specs.Runs.{contextOf, startOf, runFrom, outcomeOf, notTaken};
+ghost use Rattle.turns.specs.Runs.{contextOf, startOf, runFrom, lineOf, outcomeOf, notTaken};
 ghost use Rattle.flatten.specs.Flattening.{lent, roomsOf, handOver, answerOf, answerFrom, startStage, Startable, Leaves, Flattens};
 use blocks::Blocks;
 use copying::Cursor;
@@ -44,8 +40,7 @@ pub struct Flattened {
 
 // The line of a refusal: 0 where there is none.
 fn refused_line(files: &[u8], table: &[[u32; 5]], n: usize, f: usize, b: usize) -> usize
-    requires { ⌜ allEntries (now files) (now table) ≡ true ⌝ }
-    ensures { λ r. ⌜ r ≡ cond (eqb n 0) 0 (lineAt (bodyOf (now (files .entry)) (now (table .entry)) f) b) ⌝ }
+    ensures { λ r. ⌜ r ≡ lineOf (now (files .entry)) (now (table .entry)) n f b ⌝ }
 {
     if n == 0 {
         return 0;
@@ -57,7 +52,6 @@ fn refused_line(files: &[u8], table: &[[u32; 5]], n: usize, f: usize, b: usize) 
 }
 
 fn answer(files: &[u8], table: &[[u32; 5]], records: &[[u32; 4]], l: Last) -> Flattened
-    requires { ⌜ allEntries (now files) (now table) ≡ true ⌝ }
     ensures { λ r. ⌜ ((ms : List Macro) (b : List ℕ) → Holds ms b (now (records .entry)) (l .stage .macros) → r ≡ answerFrom (now (files .entry)) (now (table .entry)) ms l) ⌝ }
 {
     let z = l.stage;

@@ -13,7 +13,7 @@ use Rattle.lex.specs.Tokens.{inText, between, marksAfter, tokenAt, tokens}
 use Rattle.lex.specs.declared.Mode.{Mode}
 use Rattle.lex.specs.declared.Token.{Token}
 use Rattle.lex.proofs.Listing.{tokens-out}
-use Rattle.storing.proofs.Reading.{text-next as tokens-text}
+use Rattle.storing.proofs.Reading.{token-past, text-next as tokens-text}
 use Rattle.sets.specs.Sets.{members}
 use Rattle.sets.specs.declared.MacroSet.{MacroSet}
 use Rattle.packed.specs.declared.Record.{Record}
@@ -21,7 +21,7 @@ use Rattle.pending.specs.declared.Pend.{Pend}
 use Rattle.pending.specs.Pending.{Pending, textToken, textTokens}
 use Rattle.pending.specs.References.{numbersOf, pendOf, pendingBy, blank, stacked}
 use Rattle.replace.specs.Placing.{Small, storedRef}
-use Rattle.replace.proofs.Texts.{token-inside, token-on}
+use Rattle.replace.proofs.Texts.{token-inside}
 use Rattle.replace.proofs.Values.{part-own, stored-token}
 use Rattle.passing.specs.Passing.{tokensOf}
 use Rattle.pass.specs.Judging.{Unfolds}
@@ -81,7 +81,7 @@ module _ {b : List ℕ} {q : Record} {l : List (List ℕ)} {w : List ℕ} {l′ 
     unfold-small r z = let y = token-inside m w i t g h in omega (arith, text-short, z .text-small)
 
     pub unfold-less : length w - t .end < length w - i
-    unfold-less = omega (arith, token-on m w i t g h)
+    unfold-less = omega (arith, token-past m w i t g h)
 
     -- one more token
     pub unfold-more : length b ≤ length l → {none : MacroSet} → members none ≡ [] → {x : Pend} → x ≡ storedRef (q .text) t none → {v : List ℕ} → v ≡ numbersOf x
@@ -103,7 +103,7 @@ module _ {b : List ℕ} {q : Record} {l : List (List ℕ)} {w : List ℕ} {l′ 
         record {
           is-part = u .is-part;
           same-length = n ∙ u .same-length;
-          passed = omega (arith, token-on m w i t g h, u .passed);
+          passed = omega (arith, token-past m w i t g h, u .passed);
           within = y .2;
           put = λ s. u .put s
               ∙ ap (λ (z : List Pending). stacked s b (drop (length l′ - k) l′) k ++ z) (text-next w marks i t h e)

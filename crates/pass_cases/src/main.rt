@@ -16,14 +16,13 @@ use script::Next;
 use script::field_at;
 use script::field_end;
 use script::fill_records;
-use script::least;
 use script::next_at;
 use script::number_at;
-use script::run_definition;
+use script::room_at;
+use script::run_change;
 use script::say;
 use script::say_hex;
 use script::say_number;
-use script::take_out;
 use text::part_of;
 
 // What pass answers on these bytes and records.
@@ -69,14 +68,6 @@ fn run_step(
     requires { ⌜ (at ≤ length (now s)) × (length (now s) ≤ 500000) × (Ready (now s) (now bytes) (now records) count (now name) (now work) (now form)) ⌝ }
     ensures { λ r. ⌜ (Stored (now (bytes .exit)) (now (records .exit)) (r .count)) × (r .count ≤ 256) ⌝ }
 {
-    if b == 68 {
-        let n = run_definition(field_at(s, at), bytes, records, count, name, work, form);
-        return next_at(field_end(s, at), n);
-    }
-    if b == 85 {
-        let n = take_out(bytes, records, count, field_at(s, at));
-        return next_at(field_end(s, at), n);
-    }
     if b == 81 {
         say_pass(bytes, records);
         return next_at(at, count);
@@ -84,8 +75,7 @@ fn run_step(
     if b == 70 {
         return next_at(run_foreign(s, at), count);
     }
-    say(b"no such step\n");
-    next_at(s.len(), count)
+    run_change(b, s, at, bytes, records, count, name, work, form)
 }
 
 // Carries out the steps from `at` on up to the next store; where that starts.
@@ -133,12 +123,9 @@ fn run_all(s: &[u8])
             say(b"no store\n");
             return;
         }
-        let b = least(number_at(s, i + 1), 65536);
-        let r = least(number_at(s, i + 5), 300);
-        say(b"store");
-        say_number(b);
-        say_number(r);
-        say(b"\n");
+        let k = room_at(s, i + 1);
+        let b = k.bytes;
+        let r = k.records;
         let e = run_steps(
             s,
             i + 9,

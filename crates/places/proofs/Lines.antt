@@ -15,7 +15,7 @@ use Rattle.places.specs.Places.{newlines, lineAt, quoted, decimal}
 
 -- ---- newlines
 
-newlines-cons : (b : ℕ) (bs : List ℕ) → newlines (b ∷ bs) ≡ cond (eqb b 10) (suc (newlines bs)) (newlines bs)
+pub newlines-cons : (b : ℕ) (bs : List ℕ) → newlines (b ∷ bs) ≡ cond (eqb b 10) (suc (newlines bs)) (newlines bs)
 unfolding newlines
 newlines-cons b bs = refl
 

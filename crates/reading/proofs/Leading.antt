@@ -2,7 +2,7 @@
 -- Assumes nothing.
 use Prim.Native.Nat.{ℕ, _+_, _-_, _<_, _≤_}
 use mathlib.Core.Bool.{Bool, true, false, not, _&&_}
-use mathlib.Core.List.{List, [], _++_, append-assoc}
+use mathlib.Core.List.{List, []}
 use mathlib.Core.Path.{_≡_, refl, sym, ap, _∙_}
 use native.Mathlib.Omega.{arith}
 use lib.Dec.{eqb, leb}
@@ -23,15 +23,11 @@ use Rattle.copying.specs.declared.Cursor.{Cursor}
 use Rattle.copying.specs.Cursors.{stopsAt, cursorPast}
 use Rattle.copying.specs.Copying.{tokenOn, copyOf, Copies, Skips}
 use Rattle.handover.specs.Entries.{bodyOf}
-use Rattle.turns.specs.States.{Context, Frame, State, nothing, writes, more, stop, Here, refuse, framesAt, onPut, placeHere}
+use Rattle.turns.specs.States.{Context, Frame, nothing, writes, more, stop, Here, refuse, framesAt, onPut, placeHere}
 use Rattle.turns.specs.Turns.{copyTurn, skipTurn, conditionalTurn}
 use Rattle.turns.specs.Usages.{tokenTurn, turnAt}
 use Rattle.turns.specs.Leading.{Leads, standing}
 use Rattle.reading.proofs.Lining.{or-left, or-right}
-
-pub leads-append : {x : Context} {s s₁ s₂ : State} {ws ws′ : List Written} → Leads x s ws s₁ → Leads x s₁ ws′ s₂ → Leads x s (ws ++ ws′) s₂
-leads-append Leads.here k = k
-leads-append (Leads.then e h) k = rw append-assoc (Leads.then e (leads-append h k))
 
 -- ---- what a token does
 

@@ -35,6 +35,7 @@ use Rattle.turns.specs.States.{Context, Frame, nothing, Here}
 use Rattle.turns.specs.Turns.{conditionalTurn}
 use Rattle.turns.specs.Usages.{turnAt}
 use Rattle.turns.specs.Leading.{Leads, standing}
+use Rattle.turns.proofs.Leading.{leads-append}
 use Rattle.choosing.specs.Choosing.{Word, Chooses, ChosenBy}
 use Rattle.choosing.specs.declared.Chosen.{Chosen}
 use Rattle.choosing.specs.declared.Chosen.the-variants as chosen
@@ -42,7 +43,7 @@ use Rattle.reading.specs.declared.Reached.{Reached}
 use Rattle.reading.specs.declared.Reached.the-variants as reached
 use Rattle.reading.specs.Reading.{SkippedBy, PassedBy, ReadsTo, ReachedBy, StaysBy}
 use Rattle.reading.proofs.Lining.{or-left, or-right, Level, level-on, other-kind, token-level, word-level}
-use Rattle.reading.proofs.Leading.{leads-append, hereOn, full-turn, barred-turn, word-turn, copies-lead, skips-lead, copies-onward, skips-onward, word-inside, word-grave}
+use Rattle.reading.proofs.Leading.{hereOn, full-turn, barred-turn, word-turn, copies-lead, skips-lead, copies-onward, skips-onward, word-inside, word-grave}
 
 -- the tests for a conditional word
 pub outside-word : (d : ℕ) → (ltb d Ifdef || ltb Endif d) ≡ true → (leb Ifdef d && leb d Endif) ≡ false

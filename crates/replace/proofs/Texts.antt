@@ -16,7 +16,7 @@ use Rattle.lex.specs.declared.Mode.{Mode}
 use Rattle.lex.specs.declared.Token.{Token}
 use Rattle.lex.proofs.Tests.{by-test, true-false}
 use Rattle.lex.proofs.Listing.{tokens-out}
-use Rattle.lex.proofs.Progress.{token-sound, token-ends}
+use Rattle.lex.proofs.Progress.{token-sound}
 use Rattle.names.specs.Names.{isDirective, barsText}
 use Rattle.storing.proofs.Reading.{text-next as tokens-text}
 use Rattle.definition.specs.Definitions.{Parameter, parameter}
@@ -211,9 +211,6 @@ part-own b w i e h =
 pub token-inside : (m : Mode) (w : List ℕ) (i : ℕ) (t : Token) → t ≡ tokenAt m w i → i < length w
     → (t .at ≤ t .end) × (t .from ≤ t .end) × (t .end ≤ length w)
 token-inside m w i t e h = let z = token-sound m w i h in rw e (omega arith)
-
-pub token-on : (m : Mode) (w : List ℕ) (i : ℕ) (t : Token) → t ≡ tokenAt m w i → i < length w → i < t .end
-token-on m w i t e h = rw e (token-ends m w i h)
 
 -- the text w from i on is left, what takes the place of the tokens before it is added to o, which is o′ then
 pub record Placed (s b w set : List ℕ) (fs : List Parameter) (xs : List (List Pending)) (o o′ : List (List ℕ)) (most k i : ℕ) (marks : Bool) : Type 0 where

@@ -20,10 +20,11 @@ use Rattle.handover.specs.Entries.{allEntries}
 use Rattle.copying.specs.declared.Cursor.{Cursor}
 use Rattle.turns.specs.States.{Context, Frame, State, Made, writes, nothing, Turn, more, stop, finished}
 use Rattle.turns.specs.Usages.{tokenTurn, lastTurn, frameTurn, turnAt}
-use Rattle.turns.specs.Leading.{Leads, here, then, standing}
+use Rattle.turns.specs.Leading.{Leads, standing}
 use Rattle.turns.specs.Runs.{Run, ends, onto, measure, runFrom}
 use Rattle.turns.proofs.Progress.{turn-falls}
-use Rattle.turns.proofs.Running.{run-more, run-stop, run-finished, onto-nothing, onto-twice}
+use Rattle.turns.proofs.Running.{run-more, run-stop, run-finished, onto-nothing}
+use Rattle.turns.proofs.Leading.{leads-run, leads-falls}
 use Rattle.reading.specs.Reading.{ReadsTo}
 use Rattle.running.specs.declared.stage.Stage.{Stage}
 use Rattle.running.specs.declared.stage.Step.{Step}
@@ -31,21 +32,6 @@ use Rattle.running.specs.declared.stage.Step.the-variants as step
 use Rattle.running.specs.Standing.{Bufs, bufs, outerFrames, openFrames, stateOf, hereOf, lastStep, reachedAt, Ok, Fixed, isEnd, SteppedBy, Going}
 use Rattle.running.proofs.Going.{open-first}
 use Rattle.running.specs.Ending.{finish, ended, Advances, Finishes, AdvancedBy}
-
--- ---- several turns
-
-leads-run : (x : Context) {S S′ : State} {ws : List Written} → allEntries (x .store) (x .table) ≡ true → Leads x S ws S′
-    → runFrom x S ≡ onto (writes ws) (runFrom x S′)
-leads-run x {S} ok here = onto-nothing (runFrom x S)
-leads-run x ok (then {s} {s₁} {s′} {ws} {ws′} e l) =
-    run-more x s s₁ (writes ws) ok e ∙ ap (onto (writes ws)) (leads-run x ok l) ∙ onto-twice (writes ws) (writes ws′) (runFrom x s′)
-
-leads-falls : (x : Context) {S S′ : State} {ws : List Written} → allEntries (x .store) (x .table) ≡ true → Leads x S ws S′
-    → measure x (S′ .frames) ≤ measure x (S .frames)
-leads-falls x ok here = omega arith
-leads-falls x ok (then {s} {s₁} {s′} {ws} {ws′} e l) =
-    let a : measure x (s₁ .frames) < measure x (s .frames) = turn-falls x s s₁ (writes ws) ok e in
-    let b : measure x (s′ .frames) ≤ measure x (s₁ .frames) = leads-falls x ok l in omega (arith, a, b)
 
 -- the measure is of the store and the table alone
 pub measure-same : (x y : Context) (fs : List Frame) → x .store ≡ y .store → x .table ≡ y .table → measure x fs ≡ measure y fs

@@ -20,7 +20,7 @@ use Rattle.turns.specs.Turns.{defineTurn, undefTurn, includeTurn, keepTurn, fil
 use Rattle.turns.specs.Usages.{usageTurn, takenTurn}
 use Rattle.running.specs.declared.stage.Stage.{Stage}
 use Rattle.running.specs.declared.stage.Step.{Step}
-use Rattle.running.specs.Standing.{Bufs, hereOf, Fixed, At, SteppedBy, Works, GoingIn, UsageLent}
+use Rattle.running.specs.Standing.{Bufs, hereOf, Fixed, At, SteppedBy, Works, GoingIn, PlaceLent, UsageLent}
 use Rattle.running.proofs.Going.{reads-here, token-here, token-at-here}
 
 pub as-turn : (r : Step) (fs : List ℕ) (es : List (List ℕ)) (limit : ℕ) (B B′ : Bufs) (ms : List Macro) (z : Stage) (u v : Turn) → u ≡ v
@@ -43,26 +43,35 @@ module _ {fs : List ℕ} {es : List (List ℕ)} {tx mp bs : List ℕ} {rs fr : L
   line-low = let r = reads-at in omega (arith, r .small, r .inside, r .line-small)
 
   module _ {list out ranges : List (List ℕ)} {stack work quoted decimal name form : List ℕ} (w : Works list out ranges stack work quoted decimal name form) where
-    pub usage-lent : UsageLent fs es s t bs rs list out ranges stack work quoted decimal tx mp z
-    usage-lent =
+    pub place-lent : PlaceLent fs es s quoted decimal tx mp z
+    place-lent =
         record {
           file-in = g .going .ok .file-in;
           few-entries = g .going .few-entries;
           entries = g .going .entries;
           reads = reads-at;
-          inside = token-here a (g .going .ok) .within;
-          bytes-small = g .going .bytes-small;
-          few-macros = g .going .ok .few-macros;
-          stored = g .going .stored;
-          list-lent = w .list-lent;
-          out-lent = w .out-lent;
-          ranges-lent = w .ranges-lent;
-          stack-lent = w .stack-lent;
-          work-lent = w .work-lent;
           quoted-lent = w .quoted-lent;
           decimal-lent = w .decimal-lent;
-          in-text = g .going .ok .copyable .in-text;
-          in-map = g .going .ok .copyable .in-map;
+          spot = record { in-text = g .going .ok .copyable .in-text; in-map = g .going .ok .copyable .in-map };
+        }
+
+    pub usage-lent : UsageLent fs es s t bs rs list out ranges stack work quoted decimal tx mp z
+    usage-lent =
+        record {
+          place = place-lent;
+          inside = token-here a (g .going .ok) .within;
+          lends =
+              record {
+                file-small = reads-at .small;
+                bytes-small = g .going .bytes-small;
+                few-macros = g .going .ok .few-macros;
+                stored = g .going .stored;
+                list-lent = w .list-lent;
+                out-lent = w .out-lent;
+                ranges-lent = w .ranges-lent;
+                brackets-lent = w .stack-lent;
+              };
+          work-lent = w .work-lent;
         }
 
     pub define-ready : Ready s bs rs (z .macros) name work form

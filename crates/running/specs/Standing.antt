@@ -16,6 +16,7 @@ use Rattle.blocks.specs.Blocks.{Conditional}
 use Rattle.blocks.specs.Stacks.{openIn, BlocksIn}
 use Rattle.blocks.specs.declared.Blocks.{Blocks}
 use Rattle.expand.specs.declared.Expanded.{Expanded}
+use Rattle.expand.specs.Standing.{Lends, Within}
 use Rattle.handover.specs.Entries.{allEntries, bodyOf}
 use Rattle.copying.specs.Cursors.{opening}
 use Rattle.copying.specs.Copying.{Reads, Copyable}
@@ -237,22 +238,19 @@ pub record GoingIn (store : List ℕ) (table : List (List ℕ)) (text map bytes 
   pub conds : List (List ℕ)
   pub going : Going store table (bufs text map bytes records frames conds) z
 
--- what is lent to a usage
-pub record UsageLent (store : List ℕ) (table : List (List ℕ)) (s : List ℕ) (t : Token) (b : List ℕ) (r list out ranges : List (List ℕ)) (stack work quoted decimal text map : List ℕ) (z : Stage) : Type 0 where
+-- what is lent to write the name of a file and the number of a line
+pub record PlaceLent (store : List ℕ) (table : List (List ℕ)) (s quoted decimal text map : List ℕ) (z : Stage) : Type 0 where
   pub file-in : z .file < length table
   pub few-entries : length table ≤ 64
   pub entries : allEntries store table ≡ true
   pub reads : Reads s 0 (z .cursor)
-  pub inside : t .end ≤ length s
-  pub bytes-small : length b ≤ 65536
-  pub few-macros : z .macros ≤ 256
-  pub stored : Stored b r (z .macros)
-  pub list-lent : 1024 ≤ length list
-  pub out-lent : 1024 ≤ length out
-  pub ranges-lent : 256 ≤ length ranges
-  pub stack-lent : 16384 ≤ length stack
-  pub work-lent : 65539 ≤ length work
   pub quoted-lent : 257 ≤ length quoted
   pub decimal-lent : 6 ≤ length decimal
-  pub in-text : z .spot .written ≤ length text
-  pub in-map : z .spot .lines ≤ length map
+  pub spot : Within text map (z .spot)
+
+-- .. and to a usage
+pub record UsageLent (store : List ℕ) (table : List (List ℕ)) (s : List ℕ) (t : Token) (b : List ℕ) (r list out ranges : List (List ℕ)) (stack work quoted decimal text map : List ℕ) (z : Stage) : Type 0 where
+  pub place : PlaceLent store table s quoted decimal text map z
+  pub inside : t .end ≤ length s
+  pub lends : Lends s b r (z .macros) list out ranges stack
+  pub work-lent : 65539 ≤ length work

@@ -1,6 +1,5 @@
 // What is written for a directive that is kept as state, for the two `__` words and for a usage.
-ghost use mathlib.Core.Path.{_≡_};
-ghost use mathlib.Core.Bool.{true, cond};
+ghost use mathlib.Core.Bool.{cond};
 ghost use mathlib.Core.List.{List};
 ghost use Prim.Native.Nat.{ℕ, _<_, _≤_};
 ghost use lib.Dec.{eqb};
@@ -8,13 +7,12 @@ ghost use lib.ListN.{length};
 ghost use Rattle.names.specs.Names.{FileWord, LineWord};
 ghost use Rattle.definition.specs.Definitions.{Macro};
 ghost use Rattle.store.specs.Buffers.{Holds};
-ghost use Rattle.handover.specs.Entries.{allEntries};
 ghost use Rattle.copying.specs.Copying.{Reads};
 ghost use Rattle.turns.specs.States.{Context};
 ghost use Rattle.turns.specs.States.{refuse as refuseHere};
 ghost use Rattle.turns.specs.Turns.{keepTurn, fileWord, lineWord, wordTurn};
 ghost use Rattle.turns.specs.Usages.{usageTurn};
-ghost use Rattle.running.specs.Standing.{bufs, hereOf, Fixed, At, Ok, SteppedBy, UsageLent};
+ghost use Rattle.running.specs.Standing.{bufs, hereOf, Fixed, At, Ok, SteppedBy, PlaceLent, UsageLent};
 use crate::stage::Stage;
 use crate::stage::Step;
 use crate::stage::behind;
@@ -97,7 +95,7 @@ pub(crate) fn write_place_word(
     map: &mut [u32],
     z: Stage,
 ) -> Step
-    requires { ⌜ (z .file < length (now table)) × (length (now table) ≤ 64) × (allEntries (now files) (now table) ≡ true) × (257 ≤ length (now quoted)) × (6 ≤ length (now decimal)) × (z .spot .written ≤ length (now text)) × (z .spot .lines ≤ length (now map)) × Reads (now s) 0 (z .cursor) ⌝ }
+    requires { ⌜ PlaceLent (now files) (now table) (now s) (now quoted) (now decimal) (now text) (now map) z ⌝ }
     ensures { λ r. ⌜ ((x : Context) (ms : List Macro) (set : ℕ) (limit : ℕ) (bs : List ℕ) (rs : List (List ℕ)) (fr : List (List ℕ)) (cd : List (List ℕ)) → Fixed x (now (files .entry)) (now (table .entry)) set (bufs (now (text .entry)) (now (map .entry)) bs rs fr cd) → At (now (files .entry)) (now (table .entry)) (now (s .entry)) t z → Ok (now (files .entry)) (now (table .entry)) (bufs (now (text .entry)) (now (map .entry)) bs rs fr cd) z → Holds ms bs rs (z .macros) → SteppedBy r (now (files .entry)) (now (table .entry)) limit (bufs (now (text .entry)) (now (map .entry)) bs rs fr cd) (bufs (now (text .exit)) (now (map .exit)) bs rs fr cd) ms z (let h = hereOf x limit (bufs (now (text .entry)) (now (map .entry)) bs rs fr cd) ms z in cond (eqb d FileWord) (wordTurn h (fileWord h)) (cond (eqb d LineWord) (wordTurn h (lineWord h)) (refuseHere h 7)))) ⌝ }
 {
     if d == FILE_WORD {

@@ -25,6 +25,12 @@ pub fn least(a: usize, b: usize) -> usize
     if a < b { a } else { b }
 }
 
+// How many bytes and records are lent to a store.
+pub struct Room {
+    pub bytes: usize,
+    pub records: usize,
+}
+
 pub fn say(w: &[u8]) {
     io::write_all(STDOUT_FILENO, w);
 }
@@ -89,6 +95,20 @@ pub fn number_at(s: &[u8], at: usize) -> usize
         + wide(text::peek(s, at + 1)) * 256
         + wide(text::peek(s, at + 2)) * 65536
         + wide(text::peek(s, at + 3)) * 16777216
+}
+
+// The room that the two numbers at `at` say, at most 65,536 bytes and 300 records; it is printed.
+pub fn room_at(s: &[u8], at: usize) -> Room
+    requires { ⌜ at ≤ 4294967292 ⌝ }
+    ensures { λ r. ⌜ (r .bytes ≤ 65536) × (r .records ≤ 300) ⌝ }
+{
+    let bytes = least(number_at(s, at), 65536);
+    let records = least(number_at(s, at + 4), 300);
+    say(b"store");
+    say_number(bytes);
+    say_number(records);
+    say(b"\n");
+    Room { bytes, records }
 }
 
 // The bytes behind the number at `at`, so many as it says, as far as there are any.
@@ -178,4 +198,31 @@ pub fn take_out(bytes: &mut [u8], records: &mut [[u32; 4]], count: usize, w: &[u
     say_number(n);
     say(b"\n");
     n
+}
+
+// Carries out a step that changes the store, D or U, whose fields start at `at`; there is no other.
+pub fn run_change(
+    b: u8,
+    s: &[u8],
+    at: usize,
+    bytes: &mut [u8],
+    records: &mut [[u32; 4]],
+    count: usize,
+    name: &mut [u8],
+    work: &mut [u8],
+    form: &mut [u8],
+) -> Next
+    requires { ⌜ (at ≤ 4294967296) × (Ready (now s) (now bytes) (now records) count (now name) (now work) (now form)) ⌝ }
+    ensures { λ r. ⌜ (Stored (now (bytes .exit)) (now (records .exit)) (r .count)) × (r .count ≤ 256) ⌝ }
+{
+    if b == 68 {
+        let n = run_definition(field_at(s, at), bytes, records, count, name, work, form);
+        return next_at(field_end(s, at), n);
+    }
+    if b == 85 {
+        let n = take_out(bytes, records, count, field_at(s, at));
+        return next_at(field_end(s, at), n);
+    }
+    say(b"no such step\n");
+    next_at(s.len(), count)
 }

@@ -19,11 +19,11 @@ use script::fill_records;
 use script::least;
 use script::next_at;
 use script::number_at;
-use script::run_definition;
+use script::room_at;
+use script::run_change;
 use script::say;
 use script::say_bytes;
 use script::say_number;
-use script::take_out;
 
 fn say_record(v: [u32; 4]) {
     say(b"rec");
@@ -126,14 +126,6 @@ fn run_step(
     requires { ⌜ (at ≤ length (now s)) × (length (now s) ≤ 1000000) × (1025 ≤ length (now form)) × (Ready (now s) (now bytes) (now records) count (now name) (now work) (now form)) ⌝ }
     ensures { λ r. ⌜ (Stored (now (bytes .exit)) (now (records .exit)) (r .count)) × (r .count ≤ 256) ⌝ }
 {
-    if b == 68 {
-        let n = run_definition(field_at(s, at), bytes, records, count, name, work, form);
-        return next_at(field_end(s, at), n);
-    }
-    if b == 85 {
-        let n = take_out(bytes, records, count, field_at(s, at));
-        return next_at(field_end(s, at), n);
-    }
     if b == 67 {
         store::undefine_all(bytes, records, count);
         say(b"cleared\n");
@@ -158,8 +150,7 @@ fn run_step(
         let n = run_starts(field_at(s, at), &ranges[0..m], bytes, records, form);
         return next_at(k + 4 + 8 * m, n);
     }
-    say(b"no such step\n");
-    next_at(s.len(), count)
+    run_change(b, s, at, bytes, records, count, name, work, form)
 }
 
 // Carries out the steps from `at` on up to the next store; where that starts.
@@ -207,12 +198,9 @@ fn run_all(s: &[u8])
             say(b"no store\n");
             return;
         }
-        let b = least(number_at(s, i + 1), 65536);
-        let r = least(number_at(s, i + 5), 300);
-        say(b"store");
-        say_number(b);
-        say_number(r);
-        say(b"\n");
+        let k = room_at(s, i + 1);
+        let b = k.bytes;
+        let r = k.records;
         let e = run_steps(
             s,
             i + 9,

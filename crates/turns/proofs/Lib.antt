@@ -3,6 +3,7 @@ pub mod Claims
 pub mod Inside
 pub mod Progress
 pub mod Running
+pub mod Leading
 pub mod Rooms
 pub mod Places
 pub mod Lines

@@ -98,12 +98,16 @@ startOf h r =
       left = h .limit;
     }
 
+-- the line of the refusal n at byte p of file f; 0 where there is none
+abbrev pub lineOf : List ℕ → List (List ℕ) → ℕ → ℕ → ℕ → ℕ
+lineOf s t n f p = cond (eqb n 0) 0 (lineAt (bodyOf s t f) p)
+
 abbrev pub outcomeOf : Context → Run → Outcome
 outcomeOf x r =
     record {
       number = r .number;
       file = r .file;
-      line = cond (eqb (r .number) 0) 0 (lineAt (bodyOf (x .store) (x .table) (r .file)) (r .byte));
+      line = lineOf (x .store) (x .table) (r .number) (r .file) (r .byte);
       byte = r .byte;
       text = textOf (r .text);
       map = mapOf true (r .text);

@@ -2,11 +2,10 @@
 -- Assumes nothing.
 use borrow.Author.Needs.{needs}
 use Prim.Native.Nat.{_-_}
-use mathlib.Core.Bool.{false}
 use mathlib.Core.Path.{_∙_}
 use native.Mathlib.Omega.{arith}
 use lib.ListN.{length}
-use Rattle.definition.proofs.Reading.{token-goes}
+use Rattle.storing.proofs.Reading.{token-past}
 use Rattle.definition.proofs.Defaults.{Due, due-first, due-out, due-newline, due-next, due-done, due-torn, due-short}
 use Rattle.definition.proofs.default_end.Statement.{statement}
 use Rattle.definition.proofs.default_end.Tie as tie
@@ -39,7 +38,7 @@ enum-known-r : tie.Need-enum-known-r Inv-loop μ-loop
 enum-known-r c = search needs
 
 loop-less : tie.Need-loop-less Inv-loop μ-loop
-loop-less c = omega (arith, token-goes _ _ false _ _ (c .before .before .before .before .before .before .before .before .before .before .before .loop-test .taken) (c .before .before .before .before .before .before .before .before .before .before .in-definition .ensures) (c .before .before .before .before .before .before .before .before .before .token-at .ensures))
+loop-less c = omega (arith, token-past _ _ _ _ (c .before .before .before .before .before .before .before .before .before .token-at .ensures) (c .before .before .before .before .before .before .before .before .before .before .before .loop-test .taken))
 
 loop-again : tie.Need-loop-again Inv-loop μ-loop
 loop-again c = due-next (c .before .before .before .before .before .before .before .before .before .before .before .before .loop .inv) _ _ (c .before .before .before .before .before .before .before .before .before .before .before .loop-test .taken) (c .before .before .before .before .before .before .before .before .before .before .in-definition .ensures) (c .before .before .before .before .before .before .before .before .before .token-at .ensures) (c .before .before .before .before .before .before .before .if1 .left) (c .before .before .before .before .before .step-at .result) (c .before .before .before .before .before .step-at .last .1 .1 .0) (c .before .before .before .before .before .step-at .ensures) _ (c .before .r .given .1) (c .before .before .before .before .before .step-at .kept .1 .1 .0)

@@ -6,8 +6,9 @@ use mathlib.Core.Path.{_≡_, sym, _∙_}
 use native.Mathlib.Omega.{arith}
 use lib.ListN.{length}
 use Rattle.lex.specs.Tokens.{inDefinition, between, tokens}
+use Rattle.storing.proofs.Reading.{token-past}
 use Rattle.definition.specs.Extents.{extentIn, extentAt}
-use Rattle.definition.proofs.Reading.{token-goes, extent-newline, extent-on, extent-out}
+use Rattle.definition.proofs.Reading.{extent-newline, extent-on, extent-out}
 use Rattle.definition.proofs.extent_at.Statement.{statement}
 use Rattle.definition.proofs.extent_at.Tie as tie
 
@@ -49,7 +50,7 @@ marks-after-requires : tie.Need-marks-after-requires Inv-loop μ-loop
 marks-after-requires c κs = search needs
 
 loop-less : tie.Need-loop-less Inv-loop μ-loop
-loop-less c = omega (arith, token-goes _ _ _ _ _ (c .before .before .before .before .before .before .before .before .loop-test .taken) (c .before .before .before .before .before .before .before .in-definition .ensures) (c .before .before .before .before .before .before .token-at .ensures))
+loop-less c = omega (arith, token-past _ _ _ _ (c .before .before .before .before .before .before .token-at .ensures) (c .before .before .before .before .before .before .before .before .loop-test .taken))
 
 loop-again : tie.Need-loop-again Inv-loop μ-loop
 loop-again c = sym (extent-on _ _ _ _ _ (c .before .before .before .before .before .before .before .before .loop-test .taken) (c .before .before .before .before .before .before .before .in-definition .ensures) (c .before .before .before .before .before .before .token-at .ensures) _ _ (c .before .before .before .before .if1 .left) _ _ _ _ (c .before .before .before .fault-of .ensures) (c .before .before .worse .ensures) (c .before .mark-of .ensures) (c .marks-after .ensures)) ∙ c .before .before .before .before .before .before .before .before .before .loop .inv

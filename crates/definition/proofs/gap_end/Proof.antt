@@ -2,12 +2,12 @@
 -- Assumes nothing.
 use borrow.Author.Needs.{needs}
 use Prim.Native.Nat.{_-_}
-use mathlib.Core.Bool.{false}
 use mathlib.Core.Path.{_≡_, refl, sym, _∙_}
 use native.Mathlib.Omega.{arith}
 use lib.ListN.{length}
+use Rattle.storing.proofs.Reading.{token-past}
 use Rattle.definition.specs.Heads.{gapEnd}
-use Rattle.definition.proofs.Reading.{token-goes, gap-stop, gap-on, gap-out}
+use Rattle.definition.proofs.Reading.{gap-stop, gap-on, gap-out}
 use Rattle.definition.proofs.gap_end.Statement.{statement}
 use Rattle.definition.proofs.gap_end.Tie as tie
 
@@ -33,7 +33,7 @@ returns : tie.Need-returns Inv-loop μ-loop
 returns c = sym (gap-stop _ _ _ _ (c .before .before .before .before .loop-test .taken) (c .before .before .before .in-definition .ensures) (c .before .before .token-at .ensures) _ (c .before .is-gap .ensures) (c .if1 .taken)) ∙ c .before .before .before .before .before .loop .inv
 
 loop-less : tie.Need-loop-less Inv-loop μ-loop
-loop-less c = omega (arith, token-goes _ _ false _ _ (c .before .before .before .before .loop-test .taken) (c .before .before .before .in-definition .ensures) (c .before .before .token-at .ensures))
+loop-less c = omega (arith, token-past _ _ _ _ (c .before .before .token-at .ensures) (c .before .before .before .before .loop-test .taken))
 
 loop-again : tie.Need-loop-again Inv-loop μ-loop
 loop-again c = sym (gap-on _ _ _ _ (c .before .before .before .before .loop-test .taken) (c .before .before .before .in-definition .ensures) (c .before .before .token-at .ensures) _ (c .before .is-gap .ensures) (c .if1 .left)) ∙ c .before .before .before .before .before .loop .inv

@@ -6,7 +6,7 @@ use Rattle.flatten.proofs.answer.Statement.{statement}
 use Rattle.flatten.proofs.answer.Tie as tie
 
 refused-line-requires : tie.Need-refused-line-requires
-refused-line-requires c κs = search needs
+refused-line-requires c κs = tt
 
 start-of-requires : tie.Need-start-of-requires
 start-of-requires c κs = search needs

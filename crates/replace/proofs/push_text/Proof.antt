@@ -7,6 +7,7 @@ use mathlib.Core.Path.{_≡_, refl, _∙_}
 use native.Mathlib.Omega.{arith}
 use lib.ListN.{length, take}
 use borrow.Author.Needs.{needs}
+use Rattle.storing.proofs.Reading.{token-past}
 use Rattle.definition.specs.Definitions.{Parameter}
 use Rattle.sets.specs.Sets.{members}
 use Rattle.pending.specs.Pending.{Pending}
@@ -16,7 +17,7 @@ use Rattle.arguments.specs.Ranges.{Ranged}
 use Rattle.replace.specs.Tidying.{tidyAll}
 use Rattle.replace.specs.Placing.{MacroIn, Ready}
 use Rattle.replace.proofs.Ready.{ready-first, ready-before}
-use Rattle.replace.proofs.Texts.{Placed, placed-none, placed-more, placed-full, placed-all, part-own, token-inside, token-on}
+use Rattle.replace.proofs.Texts.{Placed, placed-none, placed-more, placed-full, placed-all, part-own, token-inside}
 use Rattle.replace.proofs.push_text.Statement.{statement}
 use Rattle.replace.proofs.push_text.Tie as tie
 
@@ -86,7 +87,7 @@ marks-after-requires : tie.Need-marks-after-requires Inv-loop μ-loop
 marks-after-requires c κs = search needs
 
 loop-less : tie.Need-loop-less Inv-loop μ-loop
-loop-less c = omega (arith, token-on _ _ _ _ (c .before .before .before .before .before .before .before .before .before .token-at .ensures) (c .before .before .before .before .before .before .before .before .before .before .before .loop-test .taken))
+loop-less c = omega (arith, token-past _ _ _ _ (c .before .before .before .before .before .before .before .before .before .token-at .ensures) (c .before .before .before .before .before .before .before .before .before .before .before .loop-test .taken))
 
 loop-again : tie.Need-loop-again Inv-loop μ-loop
 loop-again c =

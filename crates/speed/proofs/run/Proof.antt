@@ -1,20 +1,10 @@
 -- `speed::run` is safe: no more entries and start macros are lent than the parser filled in.
 -- Assumes nothing.
 use borrow.Author.Needs.{needs}
-use mathlib.Core.Path.{_≡_, subst}
-use mathlib.Core.List.{List}
-use Prim.Native.Nat.{ℕ, _≤_}
-use lib.ListN.{length}
-use Rattle.input.specs.Sections.{Input, inputOf}
-use Rattle.input.specs.Filling.{ParsedBy}
-use Rattle.input.specs.declared.Parsed.{Parsed}
-use Rattle.input.specs.declared.Parsed.the-variants as parsed
+use Rattle.input.specs.Sections.{inputOf}
+use Rattle.input.proofs.Fitting.{fits}
 use Rattle.speed.proofs.run.Statement.{statement}
 use Rattle.speed.proofs.run.Tie as tie
-
--- as many entries and start macros as the parser says have room
-fits : {r : Parsed} {n m : ℕ} (i : Input) (t u : List (List ℕ)) → r ≡ parsed.Whole n m → ParsedBy r i t u → (n ≤ length t) × (m ≤ length u)
-fits {r} {n} {m} i t u e h = let f : ParsedBy (parsed.Whole n m) i t u = subst (λ (q : Parsed). ParsedBy q i t u) e h in (f .table-is .within, f .starts-are .within)
 
 slice-aggregate-parse : tie.Need-slice-aggregate-parse
 slice-aggregate-parse c = search needs

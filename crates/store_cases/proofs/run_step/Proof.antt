@@ -7,14 +7,14 @@ use borrow.Author.Needs.{needs}
 use Rattle.store_cases.proofs.run_step.Statement.{statement}
 use Rattle.store_cases.proofs.run_step.Tie as tie
 
-field-at-requires : tie.Need-field-at-requires
-field-at-requires c κs = search needs
+undefine-all-requires : tie.Need-undefine-all-requires
+undefine-all-requires c κs = search needs
 
-run-definition-requires : tie.Need-run-definition-requires
-run-definition-requires c κs = record { small = search needs; few = search needs; stored = search needs; name-long = search needs; work-long = search needs; form-long = search needs }
+slice-aggregate-say : tie.Need-slice-aggregate-say
+slice-aggregate-say c = search needs
 
-field-end-requires : tie.Need-field-end-requires
-field-end-requires c κs = search needs
+say-requires : tie.Need-say-requires
+say-requires c κs = search needs
 
 next-at-requires : tie.Need-next-at-requires
 next-at-requires c κs = search needs
@@ -25,59 +25,8 @@ same-length c = search needs
 same-length-2 : tie.Need-same-length-2
 same-length-2 c = search needs
 
-same-length-3 : tie.Need-same-length-3
-same-length-3 c = search needs
-
-same-length-4 : tie.Need-same-length-4
-same-length-4 c = search needs
-
-same-length-5 : tie.Need-same-length-5
-same-length-5 c = search needs
-
 returns : tie.Need-returns
-returns c = renamed (c .next-at .ensures .1) (search needs) (search needs)
-
-field-at-requires-2 : tie.Need-field-at-requires-2
-field-at-requires-2 c κs = search needs
-
-take-out-requires : tie.Need-take-out-requires
-take-out-requires c κs = search needs
-
-field-end-requires-2 : tie.Need-field-end-requires-2
-field-end-requires-2 c κs = search needs
-
-next-at-requires-2 : tie.Need-next-at-requires-2
-next-at-requires-2 c κs = search needs
-
-same-length-6 : tie.Need-same-length-6
-same-length-6 c = search needs
-
-same-length-7 : tie.Need-same-length-7
-same-length-7 c = search needs
-
-returns-2 : tie.Need-returns-2
-returns-2 c = renamed (c .next-at2 .ensures .1) (search needs) (search needs)
-
-undefine-all-requires : tie.Need-undefine-all-requires
-undefine-all-requires c κs = search needs
-
-slice-aggregate-say : tie.Need-slice-aggregate-say
-slice-aggregate-say c = search needs
-
-say-requires : tie.Need-say-requires
-say-requires c κs = search needs
-
-next-at-requires-3 : tie.Need-next-at-requires-3
-next-at-requires-3 c κs = search needs
-
-same-length-8 : tie.Need-same-length-8
-same-length-8 c = search needs
-
-same-length-9 : tie.Need-same-length-9
-same-length-9 c = search needs
-
-returns-3 : tie.Need-returns-3
-returns-3 c = renamed (c .next-at3 .ensures .1) (record { macros = []; holds = c .before .before .before .before .before .before .undefine-all .ensures }) (omega arith)
+returns c = renamed (c .next-at .ensures .1) (record { macros = []; holds = c .before .before .before .before .before .before .undefine-all .ensures }) (omega arith)
 
 slice-aggregate-say-2 : tie.Need-slice-aggregate-say-2
 slice-aggregate-say-2 c = search needs
@@ -85,8 +34,8 @@ slice-aggregate-say-2 c = search needs
 say-requires-2 : tie.Need-say-requires-2
 say-requires-2 c κs = search needs
 
-field-at-requires-3 : tie.Need-field-at-requires-3
-field-at-requires-3 c κs = search needs
+field-at-requires : tie.Need-field-at-requires
+field-at-requires c κs = search needs
 
 look-up-requires : tie.Need-look-up-requires
 look-up-requires c κs = search needs
@@ -94,47 +43,47 @@ look-up-requires c κs = search needs
 say-bytes-requires : tie.Need-say-bytes-requires
 say-bytes-requires c κs = search needs
 
-field-end-requires-3 : tie.Need-field-end-requires-3
-field-end-requires-3 c κs = search needs
+field-end-requires : tie.Need-field-end-requires
+field-end-requires c κs = search needs
 
-next-at-requires-4 : tie.Need-next-at-requires-4
-next-at-requires-4 c κs = search needs
+next-at-requires-2 : tie.Need-next-at-requires-2
+next-at-requires-2 c κs = search needs
 
-same-length-10 : tie.Need-same-length-10
-same-length-10 c = search needs
+same-length-3 : tie.Need-same-length-3
+same-length-3 c = search needs
 
-same-length-11 : tie.Need-same-length-11
-same-length-11 c = search needs
+same-length-4 : tie.Need-same-length-4
+same-length-4 c = search needs
 
-returns-4 : tie.Need-returns-4
-returns-4 c = renamed (c .next-at4 .ensures .1) (search needs) (search needs)
+returns-2 : tie.Need-returns-2
+returns-2 c = renamed (c .next-at2 .ensures .1) (search needs) (search needs)
 
 print-store-requires : tie.Need-print-store-requires
 print-store-requires c κs = search needs
 
-next-at-requires-5 : tie.Need-next-at-requires-5
-next-at-requires-5 c κs = search needs
+next-at-requires-3 : tie.Need-next-at-requires-3
+next-at-requires-3 c κs = search needs
 
-same-length-12 : tie.Need-same-length-12
-same-length-12 c = search needs
+same-length-5 : tie.Need-same-length-5
+same-length-5 c = search needs
 
-same-length-13 : tie.Need-same-length-13
-same-length-13 c = search needs
+same-length-6 : tie.Need-same-length-6
+same-length-6 c = search needs
 
-returns-5 : tie.Need-returns-5
-returns-5 c = renamed (c .next-at5 .ensures .1) (search needs) (search needs)
+returns-3 : tie.Need-returns-3
+returns-3 c = renamed (c .next-at3 .ensures .1) (search needs) (search needs)
 
 run-foreign-requires : tie.Need-run-foreign-requires
 run-foreign-requires c κs = search needs
 
-next-at-requires-6 : tie.Need-next-at-requires-6
-next-at-requires-6 c κs = search needs
+next-at-requires-4 : tie.Need-next-at-requires-4
+next-at-requires-4 c κs = search needs
 
-returns-6 : tie.Need-returns-6
-returns-6 c = renamed (c .next-at6 .ensures .1) (search needs) (search needs)
+returns-4 : tie.Need-returns-4
+returns-4 c = renamed (c .next-at4 .ensures .1) (search needs) (search needs)
 
-field-end-requires-4 : tie.Need-field-end-requires-4
-field-end-requires-4 c κs = search needs
+field-end-requires-2 : tie.Need-field-end-requires-2
+field-end-requires-2 c κs = search needs
 
 add-fill-ranges : tie.Need-add-fill-ranges
 add-fill-ranges c = search needs
@@ -148,8 +97,8 @@ slice-aggregate-fill-ranges c = search needs
 fill-ranges-requires : tie.Need-fill-ranges-requires
 fill-ranges-requires c κs = search needs
 
-field-at-requires-4 : tie.Need-field-at-requires-4
-field-at-requires-4 c κs = search needs
+field-at-requires-2 : tie.Need-field-at-requires-2
+field-at-requires-2 c κs = search needs
 
 sub-run-starts : tie.Need-sub-run-starts
 sub-run-starts c = search needs
@@ -172,85 +121,77 @@ mul-next-at c = search needs
 add-next-at-2 : tie.Need-add-next-at-2
 add-next-at-2 c = search needs
 
-next-at-requires-7 : tie.Need-next-at-requires-7
-next-at-requires-7 c κs = search needs
+next-at-requires-5 : tie.Need-next-at-requires-5
+next-at-requires-5 c κs = search needs
+
+same-length-7 : tie.Need-same-length-7
+same-length-7 c = search needs
+
+same-length-8 : tie.Need-same-length-8
+same-length-8 c = search needs
+
+same-length-9 : tie.Need-same-length-9
+same-length-9 c = search needs
+
+returns-5 : tie.Need-returns-5
+returns-5 c = renamed (c .next-at5 .ensures .1) (search needs) (search needs)
+
+run-change-requires : tie.Need-run-change-requires
+run-change-requires c κs = search needs
+
+same-length-10 : tie.Need-same-length-10
+same-length-10 c = search needs
+
+same-length-11 : tie.Need-same-length-11
+same-length-11 c = search needs
+
+same-length-12 : tie.Need-same-length-12
+same-length-12 c = search needs
+
+same-length-13 : tie.Need-same-length-13
+same-length-13 c = search needs
 
 same-length-14 : tie.Need-same-length-14
 same-length-14 c = search needs
 
-same-length-15 : tie.Need-same-length-15
-same-length-15 c = search needs
-
-same-length-16 : tie.Need-same-length-16
-same-length-16 c = search needs
-
-returns-7 : tie.Need-returns-7
-returns-7 c = renamed (c .next-at7 .ensures .1) (search needs) (search needs)
-
-slice-aggregate-say-3 : tie.Need-slice-aggregate-say-3
-slice-aggregate-say-3 c = search needs
-
-say-requires-3 : tie.Need-say-requires-3
-say-requires-3 c κs = search needs
-
-next-at-requires-8 : tie.Need-next-at-requires-8
-next-at-requires-8 c κs = search needs
-
-returns-8 : tie.Need-returns-8
-returns-8 c = renamed (c .next-at8 .ensures .1) (search needs) (search needs)
+returns-6 : tie.Need-returns-6
+returns-6 c = search needs
 
 pub run-step-spec : {M : Type 1} → statement M
 run-step-spec =
     tie.close
     (tie.spec
-    field-at-requires
-    run-definition-requires
-    field-end-requires
-    next-at-requires
-    same-length
-    same-length-2
-    same-length-3
-    same-length-4
-    same-length-5
-    returns
-    field-at-requires-2
-    take-out-requires
-    field-end-requires-2
-    next-at-requires-2
-    same-length-6
-    same-length-7
-    returns-2
     undefine-all-requires
     slice-aggregate-say
     say-requires
-    next-at-requires-3
-    same-length-8
-    same-length-9
-    returns-3
+    next-at-requires
+    same-length
+    same-length-2
+    returns
     slice-aggregate-say-2
     say-requires-2
-    field-at-requires-3
+    field-at-requires
     look-up-requires
     say-bytes-requires
-    field-end-requires-3
-    next-at-requires-4
-    same-length-10
-    same-length-11
-    returns-4
+    field-end-requires
+    next-at-requires-2
+    same-length-3
+    same-length-4
+    returns-2
     print-store-requires
-    next-at-requires-5
-    same-length-12
-    same-length-13
-    returns-5
+    next-at-requires-3
+    same-length-5
+    same-length-6
+    returns-3
     run-foreign-requires
-    next-at-requires-6
-    returns-6
-    field-end-requires-4
+    next-at-requires-4
+    returns-4
+    field-end-requires-2
     add-fill-ranges
     number-at-requires
     slice-aggregate-fill-ranges
     fill-ranges-requires
-    field-at-requires-4
+    field-at-requires-2
     sub-run-starts
     part-run-starts-start
     part-run-starts-end
@@ -258,12 +199,15 @@ run-step-spec =
     add-next-at
     mul-next-at
     add-next-at-2
-    next-at-requires-7
+    next-at-requires-5
+    same-length-7
+    same-length-8
+    same-length-9
+    returns-5
+    run-change-requires
+    same-length-10
+    same-length-11
+    same-length-12
+    same-length-13
     same-length-14
-    same-length-15
-    same-length-16
-    returns-7
-    slice-aggregate-say-3
-    say-requires-3
-    next-at-requires-8
-    returns-8)
+    returns-6)

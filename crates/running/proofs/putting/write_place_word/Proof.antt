@@ -12,7 +12,7 @@ name-at-requires : tie.Need-name-at-requires
 name-at-requires c κs = search needs
 
 quote-requires : tie.Need-quote-requires
-quote-requires c κs = name-fits _ _ _ _ (c .before .before .before .before .before .before .before .before .before .args .quoted .now) (c .before .name-at .ensures) (c .before .before .before .before .before .before .before .before .before .pre .2) (c .before .before .before .before .before .before .before .before .before .pre .0) (c .before .before .before .before .before .before .before .before .before .pre .3)
+quote-requires c κs = name-fits _ _ _ _ (c .before .before .before .before .before .before .before .before .before .args .quoted .now) (c .before .name-at .ensures) (c .before .before .before .before .before .before .before .before .before .pre .entries) (c .before .before .before .before .before .before .before .before .before .pre .file-in) (c .before .before .before .before .before .before .before .before .before .pre .quoted-lent)
 
 part-of-requires : tie.Need-part-of-requires
 part-of-requires c κs = search needs

@@ -1,7 +1,7 @@
 -- `running::tokens::take` meets its contract.
 -- Assumes nothing.
 use Rattle.running.proofs.Going.{body-here, token-at-here}
-use Rattle.running.proofs.Taking.{as-turn, reads-at, file-small, usage-lent, define-ready, taken-usage, taken-define, taken-undef, taken-all, taken-include, taken-keep, taken-place}
+use Rattle.running.proofs.Taking.{as-turn, reads-at, file-small, place-lent, usage-lent, define-ready, taken-usage, taken-define, taken-undef, taken-all, taken-include, taken-keep, taken-place}
 use borrow.Author.Needs.{needs}
 use Rattle.running.proofs.tokens.take.Statement.{statement}
 use Rattle.running.proofs.tokens.take.Tie as tie
@@ -112,7 +112,7 @@ returns-6 : tie.Need-returns-6
 returns-6 c = λ x ms cd f a o h. as-turn ((c .before .before .before .before .keep-on) .result) _ _ _ _ _ ms _ _ _ (taken-keep _ _ ((c .before .before .before .before .before .before .before .before .before .before .before .before .if1) .left) ((c .before .before .before .before .before .before .before .before .before .before .before .if2) .left) ((c .before .before .before .before .before .before .before .before .before .before .if3) .left) ((c .before .before .before .before .before .before .before .before .before .if4) .left) ((c .before .before .before .before .before .before .before .before .if5) .left) ((c .before .before .before .before .before .before .before .if6) .taken)) ((c .before .before .before .before .keep-on) .ensures x ms _ _ _ _ _ _ cd f a o h)
 
 write-place-word-requires : tie.Need-write-place-word-requires
-write-place-word-requires c κs = (c .before .before .before .before .before .before .before .before .before .before .before .before .before .before .before .before .before .before .before .before .before .pre .0 .going .ok .file-in, c .before .before .before .before .before .before .before .before .before .before .before .before .before .before .before .before .before .before .before .before .before .pre .0 .going .few-entries, c .before .before .before .before .before .before .before .before .before .before .before .before .before .before .before .before .before .before .before .before .before .pre .0 .going .entries, c .before .before .before .before .before .before .before .before .before .before .before .before .before .before .before .before .before .before .before .before .before .pre .2 .quoted-lent, c .before .before .before .before .before .before .before .before .before .before .before .before .before .before .before .before .before .before .before .before .before .pre .2 .decimal-lent, c .before .before .before .before .before .before .before .before .before .before .before .before .before .before .before .before .before .before .before .before .before .pre .0 .going .ok .copyable .in-text, c .before .before .before .before .before .before .before .before .before .before .before .before .before .before .before .before .before .before .before .before .before .pre .0 .going .ok .copyable .in-map, reads-at (c .before .before .before .before .before .before .before .before .before .before .before .before .before .before .before .before .before .before .before .before .before .pre .0) (c .before .before .before .before .before .before .before .before .before .before .before .before .before .before .before .before .before .before .before .before .before .pre .1))
+write-place-word-requires c κs = place-lent (c .before .before .before .before .before .before .before .before .before .before .before .before .before .before .before .before .before .before .before .before .before .pre .0) (c .before .before .before .before .before .before .before .before .before .before .before .before .before .before .before .before .before .before .before .before .before .pre .1) (c .before .before .before .before .before .before .before .before .before .before .before .before .before .before .before .before .before .before .before .before .before .pre .2)
 
 same-length-24 : tie.Need-same-length-24
 same-length-24 c = search needs

@@ -36,12 +36,6 @@ struct Kept {
     answer: Flattened,
 }
 
-pub fn count(records: &[Record]) -> usize
-    ensures { λ r. ⌜ r ≡ length (now (records .entry)) ⌝ }
-{
-    records.len()
-}
-
 pub fn read(records: &[Record], i: usize) -> Record
     requires { ⌜ i < length (now records) ⌝ }
     ensures { λ r. ⌜ r ≡ getD (now (records .entry)) i noRecord ⌝ }

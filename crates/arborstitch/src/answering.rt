@@ -1,9 +1,8 @@
-// What the command does with the files that it read. Each answer is a digit: 0 done, 1 refused, 2 not written.
+// What the command does with the files that it read. Each answer is a digit.
 use crate::asking::Job;
 use classify::Classified;
 use flatten::Flattened;
 use handover::is_sound;
-use libc::STDOUT_FILENO;
 use messages::complain;
 use messages::say;
 use messages::say_number;
@@ -20,11 +19,12 @@ use outputs::range_of;
 use records::Record;
 use text::part_of;
 
-const DONE: u8 = 48;
+pub const DONE: u8 = 48;
 
 const REFUSED: u8 = 49;
 
-const UNWRITTEN: u8 = 50;
+// Bad usage, or a file that cannot be read or written.
+pub const FAILED: u8 = 50;
 
 // What a flattening leaves: the digit, and the macro records.
 struct Left {
@@ -37,8 +37,7 @@ fn body_at<'a>(store: &'a [u8], table: &[[u32; 5]], k: usize) -> &'a [u8] {
     if table.len() <= k {
         return part_of(store, 0, 0);
     }
-    let v = table[k];
-    range_of(store, v[3], v[4])
+    handover::body_at(store, table, k)
 }
 
 // The first file that is not taken by itself, or how many there are.
@@ -131,7 +130,7 @@ fn answer_pass(bytes: &[u8], records: [Record; 4096]) -> u8 {
     let p = own::pass(bytes, records);
     match p {
         pass::Answer::Yes => {
-            io::write_all(STDOUT_FILENO, b"pass: yes\n");
+            outputs::say(b"pass: yes\n");
             DONE
         }
         pass::Answer::Foreign => {
@@ -226,7 +225,7 @@ fn write_flat(
         return REFUSED;
     }
     if !write_all(j, flat, store, paths, map, r.lines, words, c.words) {
-        return UNWRITTEN;
+        return FAILED;
     }
     if !j.quiet {
         sum_up(r);
@@ -338,6 +337,6 @@ pub fn list_words(
     if emit_words(0, body, words, c.words) {
         DONE
     } else {
-        UNWRITTEN
+        FAILED
     }
 }

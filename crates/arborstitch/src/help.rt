@@ -1,9 +1,5 @@
 // What `arborstitch -h` prints.
-use libc::STDOUT_FILENO;
-
-fn say(w: &[u8]) {
-    io::write_all(STDOUT_FILENO, w);
-}
+use outputs::say;
 
 fn print_usage() {
     say(b"usage: arborstitch [OPTION ...] ROOT [FILE ...]             flatten ROOT\n");

@@ -4,16 +4,14 @@ mod answering;
 mod asking;
 mod help;
 
+use answering::DONE;
+use answering::FAILED;
 use answering::list_words;
 use answering::perform;
 use asking::Job;
 use asking::Turn;
 use asking::read_arguments;
 use options::CLASSIFY;
-
-const DONE: u8 = 48;
-
-const USAGE: u8 = 50;
 
 // Does what is asked with as much of the tables as is filled in.
 fn answer_job(
@@ -28,13 +26,13 @@ fn answer_job(
     let n = j.files;
     let m = j.starts;
     if table.len() < n {
-        return USAGE;
+        return FAILED;
     }
     if paths.len() < n {
-        return USAGE;
+        return FAILED;
     }
     if starts.len() < m {
-        return USAGE;
+        return FAILED;
     }
     perform(
         j,
@@ -54,7 +52,7 @@ fn answer(store: &mut [u8], words: &mut [[u32; 3]], bytes: &mut [u8]) -> u8 {
     let mut starts = [[0u32; 2]; 257];
     let t = read_arguments(store, &mut table, &mut paths, &mut starts);
     match t {
-        Turn::Bad => USAGE,
+        Turn::Bad => FAILED,
         Turn::Help => {
             help::print_help();
             DONE

@@ -139,7 +139,8 @@ fn write_words(fd: i32, text: &[u8], words: &[[u32; 3]], m: usize) -> bool {
     flush(fd, &out, n)
 }
 
-fn say(w: &[u8]) {
+// Writes to standard output.
+pub fn say(w: &[u8]) {
     io::write_all(STDOUT_FILENO, w);
 }
 

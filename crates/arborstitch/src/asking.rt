@@ -287,6 +287,18 @@ fn take_argument(
     take(i, &space[..n], store, table, paths, starts, j)
 }
 
+// A path without a leading `./`.
+fn plain_path(w: &[u8]) -> &[u8] {
+    if text::begins_at(w, 0, b"./") {
+        return text::part_of(w, 2, w.len());
+    }
+    w
+}
+
+fn same_path(a: &[u8], b: &[u8]) -> bool {
+    text::same(plain_path(a), plain_path(b))
+}
+
 // Whether arguments `i` and `k` name one output, other than a device.
 fn same_output(i: usize, k: usize) -> bool {
     if (i == 0) | (k == 0) {
@@ -299,14 +311,14 @@ fn same_output(i: usize, k: usize) -> bool {
     if text::begins_at(&a[..n], 0, b"/dev/") {
         return false;
     }
-    text::same(&a[..n], &b[..m])
+    same_path(&a[..n], &b[..m])
 }
 
 // Whether `w` is the path of a file that was read.
 fn is_read(w: &[u8], store: &[u8], paths: &[[u32; 2]], files: usize) -> bool {
     let mut k = 0;
     while k < files {
-        if text::same(w, outputs::path_at(store, paths, k)) {
+        if same_path(w, outputs::path_at(store, paths, k)) {
             return true;
         }
         k += 1;

@@ -17,8 +17,8 @@ loop-holds c = search needs
 path-at-requires : tie.Need-path-at-requires Inv-loop μ-loop
 path-at-requires c κs = search needs
 
-same-requires : tie.Need-same-requires Inv-loop μ-loop
-same-requires c κs = search needs
+same-path-requires : tie.Need-same-path-requires Inv-loop μ-loop
+same-path-requires c κs = search needs
 
 returns : tie.Need-returns Inv-loop μ-loop
 returns c = search needs
@@ -43,7 +43,7 @@ is-read-spec =
     μ-loop
     loop-holds
     path-at-requires
-    same-requires
+    same-path-requires
     returns
     add-k
     loop-less

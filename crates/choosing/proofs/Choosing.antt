@@ -28,8 +28,8 @@ use Rattle.blocks.specs.Stacks.{openIn, ChangedBy}
 use Rattle.blocks.specs.declared.Blocks.{Blocks}
 use Rattle.blocks.specs.declared.Changed.{Changed}
 use Rattle.blocks.specs.declared.Changed.the-variants as changed
-use Rattle.turns.specs.States.{Turn, Here, refuseAt}
-use Rattle.turns.specs.Turns.{isAt, onForm, onBlocks, openTurn, conditionTurn, conditionalTurn}
+use Rattle.turns.specs.States.{Here}
+use Rattle.turns.specs.Acts.{Act, refuses, isAt, onForm, onBlocks, openAct, conditionAct, conditionalAct}
 use Rattle.choosing.specs.declared.Named.{Named}
 use Rattle.choosing.specs.declared.Named.the-variants as named
 use Rattle.choosing.specs.declared.Chosen.{Chosen}
@@ -105,23 +105,23 @@ takes d l m x y = go (eqb d 6) (eqb d 7) (eqb d 8) refl refl refl
 
 -- the turn by a change of the open conditionals at a word that stands here
 changes : (h : Here) (w w′ : List (List ℕ)) (r : Changed) (next : Option (List Conditional)) (e : ℕ) (u : Chosen)
-    → ChangedBy r next w w′ → u ≡ choiceBy r e (h .token .at) → ChosenBy u h (onBlocks h e next) w w′
-changes h w w′ (changed.To k) next e u c x = rw (x, c .0) (record { turn-is = refl; blocks-are = c .1 })
+    → ChangedBy r next w w′ → u ≡ choiceBy r e (h .token .at) → ChosenBy u (onBlocks (h .token .at) e next) w w′
+changes h w w′ (changed.To k) next e u c x = rw (x, c .0) (record { act-is = refl; blocks-are = c .1 })
 changes h w w′ changed.Refused next e u c x = rw (x, c .0) (refl, c .1)
 
 -- `ifdef`, `ifndef` and `elsif` of a name that is defined if x
-abbrev conditionBy : ℕ → Here → Bool → ℕ → Turn
+abbrev conditionBy : ℕ → Here → Bool → ℕ → Act
 conditionBy d h x e =
-    cond (eqb d Elsif) (onBlocks h e (nextBlock x false (h .state .conds)))
-    (openTurn h (cond (eqb d Ifdef) x (not x)) e)
+    cond (eqb d Elsif) (onBlocks (h .token .at) e (nextBlock x false (h .state .conds)))
+    (openAct h (cond (eqb d Ifdef) x (not x)) e)
 
 on-name : (d : ℕ) (h : Here) (f : Form) (at a b e : ℕ) → NamedBy (named.Name a b e) f (h .body) at
-    → onForm h f (conditionTurn d h) ≡ conditionBy d h (isAt (find (part (h .body) a b) (h .state .macros))) e
+    → onForm (h .token .at) f (conditionAct d h) ≡ conditionBy d h (isAt (find (part (h .body) a b) (h .state .macros))) e
 on-name d h (Formed v i) at a b e c = rw (c .0, c .1)
 on-name d h Unformed at a b e c = absurd c
 on-name d h (Barred n p) at a b e c = absurd c
 
-on-refused : (h : Here) (f : Form) (go : Value → ℕ → Turn) (n p : ℕ) → NamedBy (named.Refused n p) f (h .body) (h .token .at) → onForm h f go ≡ refuseAt h n p
+on-refused : (h : Here) (f : Form) (go : Value → ℕ → Act) (n p : ℕ) → NamedBy (named.Refused n p) f (h .body) (h .token .at) → onForm (h .token .at) f go ≡ refuses n p
 on-refused h (Formed v i) go n p c = absurd c
 on-refused h Unformed go n p c = rw (c .0, c .1)
 on-refused h (Barred k q) go n p c = rw (c .0, c .1)
@@ -131,46 +131,46 @@ module _ (d : ℕ) {h : Here} {s : List ℕ} {t : Token} {file : ℕ} {w : List 
     (here : Word h s t file w k b r n) (w′ : List (List ℕ)) where
   -- `endif`
   pub closes : (q : Changed) (u : Chosen) → d ≡ Endif → ChangedBy q (closeBlock (openIn w (k .open))) w w′ → u ≡ choiceBy q (t .end) (t .at)
-      → ChosenBy u h (conditionalTurn d h) w w′
-  unfolding conditionalTurn
+      → ChosenBy u (conditionalAct d h) w w′
+  unfolding conditionalAct
   closes q u e c x =
       rw (eq-eqb d Endif e)
       (changes h w w′ q (closeBlock (h .state .conds)) (h .token .end) u (rw (here .conds-are) c) (rw (here .token-is) x))
 
   -- `else`
   pub turns : (q : Changed) (u : Chosen) → d ≡ Else → ChangedBy q (nextBlock true true (openIn w (k .open))) w w′ → u ≡ choiceBy q (t .end) (t .at)
-      → ChosenBy u h (conditionalTurn d h) w w′
-  unfolding conditionalTurn
+      → ChosenBy u (conditionalAct d h) w w′
+  unfolding conditionalAct
   turns q u e c x =
       rw e
       (changes h w w′ q (nextBlock true true (h .state .conds)) (h .token .end) u (rw (here .conds-are) c) (rw (here .token-is) x))
 
   -- a word that takes a name
   module _ (not-else : eqb d Else ≡ false) (not-endif : eqb d Endif ≡ false) (f : Named) (form : NamedBy f (formAt d s (t .end)) s (t .at)) where
-    pub name-refused : (m p : ℕ) → f ≡ named.Refused m p → w′ ≡ w → ChosenBy (chosen.Refused m p) h (conditionalTurn d h) w w′
-    unfolding conditionalTurn
+    pub name-refused : (m p : ℕ) → f ≡ named.Refused m p → w′ ≡ w → ChosenBy (chosen.Refused m p) (conditionalAct d h) w w′
+    unfolding conditionalAct
     name-refused m p e x =
         let c : NamedBy (named.Refused m p) (formAt d (h .body) (h .token .end)) (h .body) (h .token .at) = rw (here .body-is, here .token-is, ← e) form in
-        (rw (not-endif, not-else) (on-refused h (formAt d (h .body) (h .token .end)) (conditionTurn d h) m p c), x)
+        (rw (not-endif, not-else) (on-refused h (formAt d (h .body) (h .token .end)) (conditionAct d h) m p c), x)
 
     -- the name from a to before e, defined if x, in a form up to end
     module _ (a e end : ℕ) (is-name : f ≡ named.Name a e end) (y : List ℕ) (name-is : y ≡ part s a e) (x : Bool)
         (defined : (ms : List Macro) → Holds ms b r n → x ≡ isAt (find y ms)) where
-      by-name : conditionalTurn d h ≡ conditionBy d h x end
-      unfolding conditionalTurn
+      by-name : conditionalAct d h ≡ conditionBy d h x end
+      unfolding conditionalAct
       by-name =
           let c : NamedBy (named.Name a e end) (formAt d (h .body) (h .token .end)) (h .body) (h .token .at) = rw (here .body-is, here .token-is, ← is-name) form in
           let z : x ≡ isAt (find (part (h .body) a e) (h .state .macros)) = rw (here .body-is, ← name-is) (defined (h .state .macros) (here .macros-are)) in
           rw (not-endif, not-else, z) (on-name d h (formAt d (h .body) (h .token .end)) (h .token .at) a e end c)
 
       pub takes-elsif : (q : Changed) (u : Chosen) → d ≡ Elsif → ChangedBy q (nextBlock x false (openIn w (k .open))) w w′ → u ≡ choiceBy q end (t .at)
-          → ChosenBy u h (conditionalTurn d h) w w′
+          → ChosenBy u (conditionalAct d h) w w′
       takes-elsif q u g c v =
           rw (by-name, eq-eqb d Elsif g)
           (changes h w w′ q (nextBlock x false (h .state .conds)) end u (rw (here .conds-are) c) (rw (here .token-is) v))
 
       pub takes-ifdef : (q : Changed) (u : Chosen) → d ≡ Ifdef → ChangedBy q (openBlock file (t .at) x (openIn w (k .open))) w w′ → u ≡ choiceBy q end (t .at)
-          → ChosenBy u h (conditionalTurn d h) w w′
+          → ChosenBy u (conditionalAct d h) w w′
       takes-ifdef q u g c v =
           rw (by-name, g)
           (changes h w w′ q (openBlock (h .frame .file) (h .token .at) x (h .state .conds)) end u
@@ -178,7 +178,7 @@ module _ (d : ℕ) {h : Here} {s : List ℕ} {t : Token} {file : ℕ} {w : List 
 
       pub takes-ifndef : (q : Changed) (u : Chosen) → (d ≡ Elsif → ⊥) → (d ≡ Ifdef → ⊥)
           → ChangedBy q (openBlock file (t .at) (not x) (openIn w (k .open))) w w′ → u ≡ choiceBy q end (t .at)
-          → ChosenBy u h (conditionalTurn d h) w w′
+          → ChosenBy u (conditionalAct d h) w w′
       takes-ifndef q u g i c v =
           rw (by-name, ne-eqb d Elsif g, ne-eqb d Ifdef i)
           (changes h w w′ q (openBlock (h .frame .file) (h .token .at) (not x) (h .state .conds)) end u

@@ -12,8 +12,8 @@ use Rattle.blocks.specs.Stacks.{openIn, BlocksIn}
 use Rattle.blocks.specs.declared.Blocks.{Blocks}
 use Rattle.blocks.specs.declared.Changed.{Changed}
 use Rattle.blocks.specs.declared.Changed.the-variants as changed
-use Rattle.turns.specs.States.{Turn, Here, refuseAt, behind, goTo}
-use Rattle.turns.specs.Turns.{nameIn}
+use Rattle.turns.specs.States.{Here}
+use Rattle.turns.specs.Acts.{Act, refuses, branches, nameIn}
 use Rattle.choosing.specs.declared.Named.{Named}
 use Rattle.choosing.specs.declared.Named.the-variants as named
 use Rattle.choosing.specs.declared.Chosen.{Chosen}
@@ -41,11 +41,11 @@ pub record Word (h : Here) (s : List ℕ) (t : Token) (file : ℕ) (conds : List
   pub conds-are : h .state .conds ≡ openIn conds (k .open)
   pub macros-are : Holds (h .state .macros) b r macros
 
--- the turn that it takes: to other open conditionals behind its end, or refused
-pub record Chooses (h : Here) (u : Turn) (w′ : List (List ℕ)) (k′ : Blocks) (e : ℕ) : Type 0 where
-  pub turn-is : u ≡ goTo h (behind h e) (openIn w′ (k′ .open)) (h .state .macros)
+-- the act that it asks for: other open conditionals behind its end, or refused
+pub record Chooses (a : Act) (w′ : List (List ℕ)) (k′ : Blocks) (e : ℕ) : Type 0 where
+  pub act-is : a ≡ branches (openIn w′ (k′ .open)) e
   pub blocks-are : BlocksIn w′ k′
 
-abbrev pub ChosenBy : Chosen → Here → Turn → List (List ℕ) → List (List ℕ) → Type 0
-ChosenBy (chosen.To k′ e) h u w w′ = Chooses h u w′ k′ e
-ChosenBy (chosen.Refused n p) h u w w′ = (u ≡ refuseAt h n p) × (w′ ≡ w)
+abbrev pub ChosenBy : Chosen → Act → List (List ℕ) → List (List ℕ) → Type 0
+ChosenBy (chosen.To k′ e) a w w′ = Chooses a w′ k′ e
+ChosenBy (chosen.Refused n p) a w w′ = (a ≡ refuses n p) × (w′ ≡ w)

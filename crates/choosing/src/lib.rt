@@ -11,7 +11,7 @@ ghost use Rattle.store.specs.Stores.{find as findName};
 ghost use Rattle.store.specs.Buffers.{Holds};
 ghost use Rattle.blocks.specs.Stacks.{BlocksIn};
 ghost use Rattle.turns.specs.States.{Here};
-ghost use Rattle.turns.specs.Turns.{isAt, conditionalTurn};
+ghost use Rattle.turns.specs.Acts.{isAt, conditionalAct};
 ghost use Rattle.choosing.specs.Choosing.{NamedBy, choiceBy, Word, ChosenBy};
 use blocks::Blocks;
 use blocks::Changed;
@@ -99,7 +99,7 @@ fn choose_by_name(
     k: Blocks,
 ) -> Chosen
     requires { ⌜ BlocksIn (now conds) k × (takesName d ≡ true) × (eqb d Else ≡ false) × (eqb d Endif ≡ false) ⌝ }
-    ensures { λ r. ⌜ ((h : Here) → Word h (now (s .entry)) t file (now (conds .entry)) k (now (bytes .entry)) (now (records .entry)) macros → ChosenBy r h (conditionalTurn d h) (now (conds .entry)) (now (conds .exit))) ⌝ }
+    ensures { λ r. ⌜ ((h : Here) → Word h (now (s .entry)) t file (now (conds .entry)) k (now (bytes .entry)) (now (records .entry)) macros → ChosenBy r (conditionalAct d h) (now (conds .entry)) (now (conds .exit))) ⌝ }
 {
     let f = name_after(d, s, t);
     match f {
@@ -130,7 +130,7 @@ pub fn choose(
     k: Blocks,
 ) -> Chosen
     requires { ⌜ BlocksIn (now conds) k × (6 ≤ d) × (d ≤ 10) ⌝ }
-    ensures { λ r. ⌜ ((h : Here) → Word h (now (s .entry)) t file (now (conds .entry)) k (now (bytes .entry)) (now (records .entry)) macros → ChosenBy r h (conditionalTurn d h) (now (conds .entry)) (now (conds .exit))) ⌝ }
+    ensures { λ r. ⌜ ((h : Here) → Word h (now (s .entry)) t file (now (conds .entry)) k (now (bytes .entry)) (now (records .entry)) macros → ChosenBy r (conditionalAct d h) (now (conds .entry)) (now (conds .exit))) ⌝ }
 {
     if d == ENDIF {
         return chosen_by(close_block(conds, k), t.end, t.at);

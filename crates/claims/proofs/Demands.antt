@@ -8,10 +8,12 @@ use borrow.Author.Tests.{ne-eqb}
 use Rattle.definition.specs.Definitions.{Macro}
 use Rattle.handover.specs.Sizes.{HandOver, Rooms, isSound}
 use Rattle.turns.specs.States.{State, stop, Here}
-use Rattle.turns.specs.Usages.{usagePlace, madeBy, turnAt}
+use Rattle.turns.specs.Usages.{usagePlace, madeBy}
+use Rattle.turns.specs.Turns.{turnAt}
 use Rattle.turns.specs.Runs.{Run, contextOf, startOf, flattened}
 use Rattle.turns.proofs.Running.{run-stop}
-use Rattle.passing.specs.Meeting.{Meets, expansionAt, Soft, Through, Part}
+use Rattle.turns.specs.Through.{Through}
+use Rattle.passing.specs.Meeting.{Meets, expansionAt, Soft, Part}
 use Rattle.passing.proofs.Exact.{pass-words, pass-first, chain-exact}
 use Rattle.passing.proofs.Claims.{recursive}
 use Rattle.passing.proofs.Whole.{demand3}

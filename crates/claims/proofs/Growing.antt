@@ -13,7 +13,7 @@ use Rattle.writing.proofs.Laws.{text-append, map-append}
 use Rattle.handover.specs.Sizes.{HandOver, Rooms, isSound}
 use Rattle.handover.proofs.Laws.{sound-facts}
 use Rattle.turns.specs.States.{Context, State, Turn, more, stop, finished}
-use Rattle.turns.specs.Usages.{turnAt}
+use Rattle.turns.specs.Turns.{turnAt}
 use Rattle.turns.specs.Runs.{Run, Outcome, ends, onto, follow, runFor, measure, runFrom, contextOf, startOf, outcomeOf, flattened}
 use Rattle.claims.specs.Growing.{Larger, wantsRoom, Grows}
 use Rattle.claims.proofs.GrowingUsages.{Wider, Front, front-same, front-behind, front-on}

@@ -1,34 +1,25 @@
 -- A turn in a larger room is the same, or the smaller lacks room and what it wrote is a front of what the other wrote.
 -- Assumes nothing.
 use Prim.Native.Nat.{ℕ, _-_}
-use mathlib.Core.Bool.{Bool, true, false, cond, not, _&&_, _||_}
-use mathlib.Core.Option.{Option, none, some}
+use mathlib.Core.Bool.{Bool, true, false}
 use mathlib.Core.List.{List, [], _∷_}
 use mathlib.Core.Path.{_≡_, refl, sym, ap, subst}
-use lib.Dec.{eqb, leb}
-use lib.ListN.{length, getD}
+use lib.Dec.{eqb}
 use borrow.Author.Tests.{eqb-true}
-use Rattle.text.specs.Bytes.{part}
-use Rattle.lex.specs.Tokens.{Grave, End, is, nameOf}
+use Rattle.lex.specs.Tokens.{nameOf}
 use Rattle.lex.proofs.Tests.{by-test, true-false}
-use Rattle.names.specs.Names.{FileWord, LineWord, Define, Undef, UndefineAll, Ifdef, Elsif, Else, Endif, Include, Resetall, EndKeywords, directiveOf}
-use Rattle.directive.specs.declared.Value.{Value}
-use Rattle.directive.specs.declared.Form.{Form}
-use Rattle.directive.specs.declared.Form.the-variants.{Formed, Unformed, Barred}
-use Rattle.directive.specs.declared.FileName.{FileName}
-use Rattle.directive.specs.declared.FileName.the-variants.{Unnamed, Quoted, Angled}
-use Rattle.directive.specs.declared.IncludeLine.{IncludeLine}
-use Rattle.directive.specs.Include.{includeAt}
-use Rattle.definition.specs.Definitions.{Macro, Definition, barred, bad, good, definitionAt}
+use Rattle.definition.specs.Definitions.{Macro}
 use Rattle.store.specs.Stores.{define, fits}
 use Rattle.settings.specs.declared.Settings.{Settings}
 use Rattle.writing.specs.Written.{Written, Room, Put, putIn}
-use Rattle.blocks.specs.Blocks.{Conditional, takenBy, openBlock, nextBlock, closeBlock}
-use Rattle.handover.specs.Entries.{entryOf}
-use Rattle.expand.specs.Expanding.{Expansion, first, goesOn, expand}
+use Rattle.blocks.specs.Blocks.{Conditional}
+use Rattle.expand.specs.Expanding.{Expansion}
 use Rattle.turns.specs.States.{Context, Frame, State, Made, Turn, more, stop, finished, Here, behind, onPut, write, goTo, refuseAt, roomAfter}
-use Rattle.turns.specs.Turns.{copyTurn, skipTurn, endTurn, onForm, onBlocks, isDefined, formHere, conditionTurn, conditionalTurn, defineTurn, hideTurn, undefTurn, enterTurn, includeBy, includeTurn, keepTurn, wordTurn}
-use Rattle.turns.specs.Usages.{afterUsage, usageTurn, takenTurn, ignoredTurn, graveTurn, tokenTurn, lastTurn, hereAt, frameTurn, turnAt, outerOf}
+use Rattle.turns.specs.Acts.{Act, refuses, leaves, copies, skips, hides, branches, defines, undefines, includes, keeps, spells, expands, actAt}
+use Rattle.turns.specs.Usages.{afterUsage, usageEnd, expandHere, outerOf}
+use Rattle.turns.specs.Performing.{perform}
+use Rattle.turns.specs.Turns.{tokenTurn, lastTurn, hereAt, frameTurn, turnAt}
+use Rattle.turns.proofs.Acts.{act-same}
 use Rattle.claims.specs.Growing.{wantsRoom}
 use Rattle.claims.proofs.GrowingUsages.{both-by, Wider, after-wider, PutsGrow, fits as both-fit, lacks, put-grows, Front, front-none, ExpansionGrows, leaving, expand-grows}
 
@@ -92,72 +83,6 @@ module _ (h : Here) (r r′ : Room) (w : Wider r r′) where
   write-grows : (ws : List Written) (fs : List Frame) (c : Settings) → TurnsGrow (write small ws fs c) (write large ws fs c)
   write-grows ws fs c = put-turns ws fs c (putIn r ws) (putIn r′ ws) (put-grows r r′ ws w)
 
-  copy-grows : TurnsGrow (copyTurn small) (copyTurn large)
-  copy-grows = write-grows _ _ _
-
-  skip-grows : TurnsGrow (skipTurn small) (skipTurn large)
-  skip-grows = go-grows _ _ _
-
-  end-grows : TurnsGrow (endTurn small) (endTurn large)
-  end-grows = both-by TurnsGrow (h .frame .cursor .comment) (λ e. write-grows _ _ _) (λ e. go-grows _ _ _)
-
-  form-grows : (f : Form) (g g′ : Value → ℕ → Turn) → ((v : Value) (e : ℕ) → TurnsGrow (g v e) (g′ v e))
-      → TurnsGrow (onForm small f g) (onForm large f g′)
-  form-grows (Formed v e) g g′ k = k v e
-  form-grows Unformed g g′ k = refuse-grows _ _
-  form-grows (Barred n p) g g′ k = refuse-grows _ _
-
-  blocks-grow : (e : ℕ) (cs : Option (List Conditional)) → TurnsGrow (onBlocks small e cs) (onBlocks large e cs)
-  blocks-grow e none = refuse-grows _ _
-  blocks-grow e (some cs) = go-grows _ _ _
-
-  condition-grows : (d : ℕ) (v : Value) (e : ℕ) → TurnsGrow (conditionTurn d small v e) (conditionTurn d large v e)
-  condition-grows d v e =
-      both-by TurnsGrow (eqb d Elsif) (λ q. blocks-grow e (nextBlock (isDefined h v) false (h .state .conds)))
-      (λ q. blocks-grow e (openBlock (h .frame .file) (h .token .at) (cond (eqb d Ifdef) (isDefined h v) (not (isDefined h v))) (h .state .conds)))
-
-  conditional-grows : (d : ℕ) → TurnsGrow (conditionalTurn d small) (conditionalTurn d large)
-  unfolding conditionalTurn
-  conditional-grows d =
-      both-by TurnsGrow (eqb d Endif) (λ q. blocks-grow (h .token .end) (closeBlock (h .state .conds)))
-      (λ q. both-by TurnsGrow (eqb d Else) (λ q′. blocks-grow (h .token .end) (nextBlock true true (h .state .conds)))
-      (λ q′. form-grows (formHere d h) (conditionTurn d small) (conditionTurn d large) (condition-grows d)))
-
-  define-grows : (d : Definition) → TurnsGrow (defineTurn small d) (defineTurn large d)
-  define-grows (barred n p) = refuse-grows _ _
-  define-grows (bad e) = refuse-grows _ _
-  define-grows (good m e) =
-      both-by TurnsGrow (fits (h .context .records) (h .context .bytes) (define m (h .state .macros))) (λ q. go-grows _ _ _) (λ q. refuse-grows _ _)
-
-  hide-grows : (d : Definition) → TurnsGrow (hideTurn small d) (hideTurn large d)
-  hide-grows (barred n p) = refuse-grows _ _
-  hide-grows (bad e) = go-grows _ _ _
-  hide-grows (good m e) = go-grows _ _ _
-
-  undef-grows : TurnsGrow (undefTurn small) (undefTurn large)
-  undef-grows = form-grows (formHere Undef h) _ _ (λ v e. go-grows _ _ _)
-
-  enter-grows : (l : IncludeLine) (form : ℕ) (u : List ℕ) → TurnsGrow (enterTurn small l form u) (enterTurn large l form u)
-  enter-grows l form u =
-      let i = entryOf (h .context .store) form u (h .context .table) in
-      both-by TurnsGrow (h .frame .cursor .other || (l .other || (eqb form 1 && eqb (getD u 0 0) 47))) (λ q. refuse-grows _ _)
-      (λ q. both-by TurnsGrow (leb (length (h .context .table)) i) (λ q′. refuse-grows _ _)
-      (λ q′. both-by TurnsGrow (leb 15 (length (h .others))) (λ q″. refuse-grows _ _) (λ q″. go-grows _ _ _)))
-
-  named-grows : (l : IncludeLine) (f : FileName) → TurnsGrow (includeBy small l f) (includeBy large l f)
-  named-grows l Unnamed = refuse-grows _ _
-  named-grows l (Quoted i e) = enter-grows l 0 (part (h .body) i e)
-  named-grows l (Angled i e) = enter-grows l 1 (part (h .body) i e)
-
-  include-grows : (l : IncludeLine) → TurnsGrow (includeTurn small l) (includeTurn large l)
-  include-grows l = both-by TurnsGrow (eqb (l .bars .number) 0) (λ q. named-grows l (l .file)) (λ q. refuse-grows _ _)
-
-  keep-grows : (d : ℕ) → TurnsGrow (keepTurn d small) (keepTurn d large)
-  keep-grows d = form-grows (formHere d h) _ _ (λ v e. write-grows _ _ _)
-
-  word-grows : (u : List ℕ) → TurnsGrow (wordTurn small u) (wordTurn large u)
-  word-grows u = write-grows _ _ _
-
   -- what a turn behind a usage writes
   usage-writes : (next : ℕ) (e : Expansion) → writtenBy (afterUsage large next e) ≡ e .text
   usage-writes next e = by-test (λ (t : Turn). writtenBy t ≡ e .text) (eqb (e .stop) 0) (λ q. refl) (λ q. refl)
@@ -189,41 +114,27 @@ module _ (h : Here) (r r′ : Room) (w : Wider r r′) where
       go false q =
           subst (λ (x : Expansion). TurnsGrow (afterUsage small next e) (afterUsage large next x)) (sym (g .alike q)) (after-same next e (e′ .room))
 
-  usage-grows : TurnsGrow (usageTurn small) (usageTurn large)
-  usage-grows =
-      let u = nameOf (h .body) (h .token) in
-      after-grows (goesOn (h .body) (first (h .state .macros) u (h .body) (h .token .end)))
-      (expand (h .state .left) (outerOf h) (h .state .macros) r u (h .body) (h .token .end))
-      (expand (h .state .left) (outerOf h) (h .state .macros) r′ u (h .body) (h .token .end))
-      (expand-grows (h .state .left) (outerOf h) (h .state .macros) r r′ u (h .body) (h .token .end) w)
-
-  taken-grows : (d : ℕ) → TurnsGrow (takenTurn d small) (takenTurn d large)
-  unfolding takenTurn
-  taken-grows d =
-      both-by TurnsGrow (eqb d 0) (λ q. usage-grows)
-      (λ q. both-by TurnsGrow (eqb d Define) (λ q1. define-grows (definitionAt (h .body) (h .token .end)))
-      (λ q1. both-by TurnsGrow (eqb d Undef) (λ q2. undef-grows)
-      (λ q2. both-by TurnsGrow (eqb d UndefineAll) (λ q3. go-grows _ _ _)
-      (λ q3. both-by TurnsGrow (eqb d Include) (λ q4. include-grows (includeAt (h .body) (h .token .end)))
-      (λ q4. both-by TurnsGrow (leb Resetall d && leb d EndKeywords) (λ q5. keep-grows d)
-      (λ q5. both-by TurnsGrow (eqb d FileWord) (λ q6. word-grows _)
-      (λ q6. both-by TurnsGrow (eqb d LineWord) (λ q7. word-grows _) (λ q7. refuse-grows _ _))))))))
-
-  ignored-grows : (d : ℕ) → TurnsGrow (ignoredTurn d small) (ignoredTurn d large)
-  ignored-grows d = both-by TurnsGrow (eqb d Define) (λ q. hide-grows (definitionAt (h .body) (h .token .end))) (λ q. skip-grows)
-
-  grave-grows : (d : ℕ) → TurnsGrow (graveTurn d small) (graveTurn d large)
-  grave-grows d =
-      both-by TurnsGrow (leb Ifdef d && leb d Endif) (λ q. conditional-grows d)
-      (λ q. both-by TurnsGrow (takenBy (h .state .conds)) (λ q′. taken-grows d) (λ q′. ignored-grows d))
+  act-grows : (a : Act) → TurnsGrow (perform small a) (perform large a)
+  act-grows (refuses n p) = refuse-grows n p
+  act-grows leaves = both-by TurnsGrow (h .frame .cursor .comment) (λ e. write-grows _ _ _) (λ e. go-grows _ _ _)
+  act-grows copies = write-grows _ _ _
+  act-grows skips = go-grows _ _ _
+  act-grows (hides e) = go-grows _ _ _
+  act-grows (branches cs e) = go-grows _ _ _
+  act-grows (defines m e) =
+      both-by TurnsGrow (fits (h .context .records) (h .context .bytes) (define m (h .state .macros))) (λ q. go-grows _ _ _) (λ q. refuse-grows _ _)
+  act-grows (undefines ms e) = go-grows _ _ _
+  act-grows (includes i e) = go-grows _ _ _
+  act-grows (keeps v e) = write-grows _ _ _
+  act-grows (spells u) = write-grows _ _ _
+  act-grows expands =
+      after-grows (usageEnd h) (expandHere small) (expandHere large)
+      (expand-grows (h .state .left) (outerOf h) (h .state .macros) r r′ (nameOf (h .body) (h .token)) (h .body) (h .token .end) w)
 
   token-grows : TurnsGrow (tokenTurn small) (tokenTurn large)
-  unfolding tokenTurn
   token-grows =
-      both-by TurnsGrow (not (eqb (h .token .bar) 0)) (λ q. refuse-grows _ _)
-      (λ q. both-by TurnsGrow (is End (h .token)) (λ q1. end-grows)
-      (λ q1. both-by TurnsGrow (is Grave (h .token)) (λ q2. grave-grows (directiveOf (nameOf (h .body) (h .token))))
-      (λ q2. both-by TurnsGrow (takenBy (h .state .conds)) (λ q3. copy-grows) (λ q3. skip-grows))))
+      let x = h .context in
+      rw (act-same h r (x .records) (x .bytes), act-same h r′ (x .records) (x .bytes)) (act-grows (actAt h))
 
 last-grows : (cs : List Conditional) → TurnsGrow (lastTurn cs) (lastTurn cs)
 last-grows [] = both-end

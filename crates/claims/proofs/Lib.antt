@@ -1,10 +1,14 @@
 pub mod Taken
+pub mod Files
 pub mod GrowingUsages
 pub mod GrowingTurns
 pub mod Growing
-pub mod RefusedDirectives
 pub mod RefusedReplacing
 pub mod RefusedUsages
+pub mod RefusedTurns
+pub mod Stretches
+pub mod Telling
+pub mod NothingDropped
 pub mod Refused
 pub mod PiecesMacros
 pub mod PiecesSources

@@ -17,7 +17,8 @@ use Rattle.places.specs.Places.{decimal, lineAt}
 use Rattle.pending.specs.Pending.{Pending, kindView, view}
 use Rattle.expand.specs.Expanding.{Outer, wordWrites, writes, isCall}
 use Rattle.turns.specs.States.{Context}
-use Rattle.claims.specs.Pieces.{fileOf, tokenIn, Read, outerAt, Source, Kept, Word, file-word, line-word, Piece, copied, kept, newline, word, expanded, Worded, as-file, as-line}
+use Rattle.claims.specs.Files.{fileOf, tokenIn, Read}
+use Rattle.claims.specs.Pieces.{outerAt, Source, Kept, Word, file-word, line-word, Piece, copied, kept, newline, word, expanded, Worded, as-file, as-line}
 use Rattle.claims.proofs.PiecesTokens.{isAccent, token-begins}
 use Rattle.claims.proofs.PiecesTexts.{Tame, source-tame}
 

@@ -14,7 +14,8 @@ use Rattle.pending.specs.Pending.{Pending, fileFrom, View, blanks, calls, names
 use Rattle.replace.specs.Replacing.{Got, refused, got, replace}
 use Rattle.expand.specs.Expanding.{Outer, writes, Expansion, Next, onGot, onPut, isCall, dealBy, walk, onward, first, expand}
 use Rattle.turns.specs.States.{Context}
-use Rattle.claims.specs.Pieces.{fileOf, Accented, outerAt, Source, Piece, expanded, Pieces, none, then}
+use Rattle.claims.specs.Files.{fileOf, Accented}
+use Rattle.claims.specs.Pieces.{outerAt, Source, Piece, expanded, Pieces, none, then}
 use Rattle.claims.proofs.PiecesMacros.{Each, each-none, each-append, AllKnown}
 use Rattle.claims.proofs.PiecesSources.{Sources, GotFrom, replace-from, InFile, file-each}
 

@@ -26,7 +26,8 @@ use Rattle.replace.specs.Tidying.{beforeNewline, isBackslash, cleanedAll, dropL
 use Rattle.replace.specs.Replacing.{fallback, orElse, value, instead, imageOf, inPlace, textWith, Got, refused, got, enough, Listed, listed, accepted, listFor, withList, replaceBy, replaceAt, replace}
 use Rattle.replace.specs.Replacing as replacing
 use Rattle.turns.specs.States.{Context}
-use Rattle.claims.specs.Pieces.{Among, first, later, fileOf, tokenIn, Defined, isBarred, Source, of-list, of-text, of-default, tidied}
+use Rattle.claims.specs.Files.{fileOf, tokenIn}
+use Rattle.claims.specs.Pieces.{Among, first, later, Defined, isBarred, Source, of-list, of-text, of-default, tidied}
 use Rattle.claims.proofs.PiecesMacros.{Each, each-none, each-with, each-append, Known, empty, defined, AllKnown, known-at}
 
 -- ---- tokens

@@ -26,7 +26,8 @@ use Rattle.genuine.proofs.Fitting.{good-fit}
 use Rattle.pending.specs.Pending.{Pending, fileToken, textToken, isComment, kindView, view}
 use Rattle.replace.specs.Tidying.{cleaned}
 use Rattle.turns.specs.States.{Context}
-use Rattle.claims.specs.Pieces.{Among, first, later, fileOf, tokenIn, Defined, isBarred, Source, of-list, of-text, of-default, tidied}
+use Rattle.claims.specs.Files.{fileOf, tokenIn}
+use Rattle.claims.specs.Pieces.{Among, first, later, Defined, isBarred, Source, of-list, of-text, of-default, tidied}
 use Rattle.claims.proofs.PiecesMacros.{Each, each-none, each-with}
 use Rattle.claims.proofs.PiecesSources.{free-bar}
 use Rattle.claims.proofs.PiecesTokens.{isAccent, Begins, token-begins}

@@ -25,7 +25,7 @@ use Rattle.arguments.specs.Arguments as arguments
 use Rattle.replace.specs.Tidying.{cleaned, beforeNewline, isBackslash, cleanedAll, dropLeft, keepLast, dropRight, tidy, tidyAll}
 use Rattle.replace.specs.Replacing.{fallback, orElse, value, instead, imageOf, inPlace, Got, refused, got, textWith, enough, Listed, listed, accepted, listFor, withList, replaceBy, replaceAt, replace}
 use Rattle.replace.specs.Replacing as replacing
-use Rattle.claims.proofs.RefusedDirectives.{TokensIn, tokens-in}
+use Rattle.turns.proofs.Forms.{TokensIn, tokens-in}
 
 -- one of 2 to 20, at a place in the text s or at its end
 pub record RefusedIn (s : List ℕ) (n p : ℕ) : Type 0 where

@@ -7,6 +7,7 @@ use Rattle.turns.proofs.Rooms.{text-fits, map-fits, map-lines}
 use Rattle.turns.proofs.Lines.{map-places}
 use Rattle.classify.proofs.Claims as words
 use Rattle.claims.specs.Claim.{Bench, Always, Claim}
+use Rattle.claims.proofs.NothingDropped.{nothing-dropped}
 use Rattle.claims.proofs.Demands.{demand-three}
 use Rattle.claims.proofs.Growing.{larger-grows}
 use Rattle.claims.proofs.Refused.{refused-placed, refused-number, one-exactly, unsound-one}
@@ -41,6 +42,7 @@ always h r =
       larger-grows = λ r′ l e. larger-grows h r r′ l e;
       from-pieces = text-from-pieces h r;
       accents-kept = accents-kept (contextOf h r);
+      nothing-dropped = nothing-dropped h r;
     }
 
 pub whole : Claim

@@ -8,7 +8,7 @@ use lib.Dec.{eqb}
 use lib.ListN.{length, getD}
 use Rattle.text.specs.Bytes.{bytes}
 use Rattle.handover.specs.Sizes.{HandOver, Rooms, isSound}
-use Rattle.turns.specs.Runs.{contextOf, flattened}
+use Rattle.turns.specs.Runs.{contextOf, startOf, flattened}
 use Rattle.turns.specs.Lines.{linesIn}
 use Rattle.turns.specs.Mapping.{InFile, All}
 use Rattle.turns.specs.Examples.{says, flat}
@@ -17,6 +17,7 @@ use Rattle.classify.specs.Answer.{outcomeOf}
 use Rattle.claims.specs.Growing.{Larger, Grows}
 use Rattle.claims.specs.Refused.{PlacedIn, NumberedIn}
 use Rattle.claims.specs.Pieces.{Kept, Piece, Pieces}
+use Rattle.claims.specs.NothingDropped.{NothingDropped}
 use Rattle.claims.specs.Demands.{DemandThree}
 
 abbrev pub only : List (List ℕ) → Words
@@ -54,6 +55,8 @@ pub record Always (h : HandOver) (r : Rooms) : Type 0 where
   -- `__` words and of tokens of expansions that are no usages; of these only a directive that is kept begins with a grave accent
   pub from-pieces : Pieces (contextOf h r) (flattened h r .text)
   pub accents-kept : (b : List ℕ) → Piece (contextOf h r) b → eqb (getD b 0 0) 96 ≡ true → Kept (contextOf h r) b
+  -- nothing is dropped: each file read is taken stretch by stretch, without gap or overlap, and the text is what these wrote
+  pub nothing-dropped : isSound h r ≡ true → NothingDropped h r (contextOf h r) (startOf h r)
 
 pub record Claim : Type 0 where
   pub bench : Bench

@@ -12,10 +12,11 @@ use Rattle.handover.specs.Sizes.{HandOver, Rooms, isSound}
 use Rattle.turns.specs.States.{State, Here}
 use Rattle.turns.specs.Runs.{contextOf, startOf, flattened}
 use Rattle.turns.specs.Examples.{alone, printing}
+use Rattle.turns.specs.Through.{Through}
 use Rattle.passing.specs.Passing.{yes, fault, passOf}
 use Rattle.passing.specs.Chains.{chain}
 use Rattle.passing.specs.Meaning.{Demanded, First, Longest}
-use Rattle.passing.specs.Meeting.{Meets, expansionAt, Tame, Soft, Through, AllTame, Demand3}
+use Rattle.passing.specs.Meeting.{Meets, expansionAt, Tame, Soft, AllTame, Demand3}
 use Rattle.flatten.specs.Flattening.{Lent, roomsOf, Flattens}
 use Rattle.flatten.specs.declared.Flattened.{Flattened}
 

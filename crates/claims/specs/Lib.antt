@@ -1,5 +1,8 @@
 pub mod Growing
 pub mod Refused
+pub mod Files
 pub mod Pieces
+pub mod Stretches
+pub mod NothingDropped
 pub mod Claim
 pub mod Demands

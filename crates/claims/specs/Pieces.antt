@@ -1,14 +1,14 @@
 -- What the text is made of: pieces, each with the place that it comes from.
 -- Assumes nothing.
-use Prim.Native.Nat.{ℕ, _<_}
+use Prim.Native.Nat.{ℕ}
 use mathlib.Core.Bool.{Bool, true, false, _&&_}
 use mathlib.Core.Option.{some}
 use mathlib.Core.List.{List, [], _∷_, _++_}
 use mathlib.Core.Path.{_≡_}
-use lib.Dec.{eqb, leb}
+use lib.Dec.{leb}
 use lib.ListN.{length}
 use Rattle.text.specs.Bytes.{part}
-use Rattle.lex.specs.Tokens.{inFile, inText, LineComment, Grave, is, nameOf, tokenAt, tokens}
+use Rattle.lex.specs.Tokens.{inFile, inText, LineComment, Grave, is, tokens}
 use Rattle.lex.specs.declared.Token.{Token}
 use Rattle.names.specs.Names.{FileWord, LineWord, Define, Resetall, EndKeywords, directiveOf}
 use Rattle.directive.specs.declared.Value.{Value}
@@ -19,33 +19,14 @@ use Rattle.places.specs.Places.{quoted, decimal, lineAt, placeOf}
 use Rattle.pending.specs.Pending.{Pending, fileToken, textToken, View, blanks, calls, names, opens, closes, commas, bars, plain, view}
 use Rattle.replace.specs.Tidying.{cleaned}
 use Rattle.expand.specs.Expanding.{Outer, isCall, writes}
-use Rattle.handover.specs.Entries.{bodyOf, nameOf as entryNamed}
+use Rattle.handover.specs.Entries.{nameOf as entryNamed}
 use Rattle.turns.specs.States.{Context}
+use Rattle.claims.specs.Files.{fileOf, tokenIn, Read, Accented}
 
 -- one of a list
 pub data Among {A : Type 0} (a : A) : List A → Type 0 where
   first : {l : List A} → Among a (a ∷ l)
   later : {b : A} {l : List A} → Among a l → Among a (b ∷ l)
-
--- the file of entry i
-abbrev pub fileOf : Context → ℕ → List ℕ
-fileOf x i = bodyOf (x .store) (x .table) i
-
--- the token at p of that file
-abbrev pub tokenIn : Context → ℕ → ℕ → Token
-tokenIn x i p = tokenAt inFile (fileOf x i) p
-
--- a token at p of file i that nothing bars
-pub record Read (x : Context) (i p : ℕ) : Type 0 where
-  pub file-in : i < length (x .table)
-  pub inside : p < length (fileOf x i)
-  pub free : eqb (tokenIn x i p .bar) 0 ≡ true
-
--- such a token, a grave accent name: of the directive d, or of a usage if d is 0
-pub record Accented (x : Context) (i p d : ℕ) : Type 0 where
-  pub read : Read x i p
-  pub grave : is Grave (tokenIn x i p) ≡ true
-  pub name-is : directiveOf (nameOf (fileOf x i) (tokenIn x i p)) ≡ d
 
 -- a macro that a `define` at p of file i gives
 pub record Defined (x : Context) (m : Macro) : Type 0 where

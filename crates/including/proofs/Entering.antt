@@ -1,4 +1,4 @@
--- What the code knows of an include gives the turn that it takes.
+-- What the code knows of an include gives the act that it asks for.
 -- Assumes nothing.
 use Prim.Native.Nat.{ℕ, _-_, _<_, _≤_}
 use mathlib.Core.Bool.{Bool, true, false, _&&_, _||_}
@@ -10,83 +10,87 @@ use lib.ListN.{length, getD}
 use borrow.Author.Tests.{eq-eqb, ne-eqb, le-leb, lt-leb}
 use Rattle.text.specs.Bytes.{part}
 use Rattle.lex.specs.declared.Token.{Token}
+use Rattle.lex.proofs.Progress.{Inside}
 use Rattle.directive.specs.declared.FileName.the-variants.{Unnamed, Quoted, Angled}
 use Rattle.directive.specs.declared.IncludeLine.{IncludeLine}
 use Rattle.directive.specs.Include.{includeAt}
 use Rattle.handover.specs.Entries.{entryOf}
-use Rattle.turns.specs.States.{Here, refuseAt}
-use Rattle.turns.specs.Turns.{enterTurn, includeTurn}
+use Rattle.turns.specs.States.{Here}
+use Rattle.turns.specs.Acts.{enterAct, includeAct}
+use Rattle.turns.specs.Asking.{EndsAt}
+use Rattle.turns.proofs.Forms.{include-inside}
+use Rattle.turns.proofs.Asking.{ends-at}
 use Rattle.including.specs.declared.Entered.{Entered}
-use Rattle.including.specs.Including.{IncludeHere, Enters, EnteredBy}
+use Rattle.including.specs.declared.Entered.the-variants as entered
+use Rattle.including.specs.Including.{IncludeHere, EnteredBy}
 
 -- no file of that form and name may be included on this line
 abbrev pub barredBy : Bool → IncludeLine → ℕ → List ℕ → Bool
 barredBy other l form w = other || (l .other || (eqb form 1 && eqb (getD w 0 0) 47))
 
--- 9: the line or the name bars it
-pub enter-barred : (store : List ℕ) (table : List (List ℕ)) (s : List ℕ) (t : Token) (other : Bool) (depth : ℕ) (l : IncludeLine)
-    (form : ℕ) (w : List ℕ) → barredBy other l form w ≡ true
-    → (h : Here) → IncludeHere h store table s t other depth → enterTurn h l form w ≡ refuseAt h 9 (t .at)
-enter-barred store table s t other depth l form w e h x = rw (x .other-is, e, x .token-is)
+module _ (store : List ℕ) (table : List (List ℕ)) (s : List ℕ) (t : Token) (other : Bool) (depth : ℕ) (l : IncludeLine) where
+  module _ (form : ℕ) (w : List ℕ) where
+    -- the answer to a file of that form and name
+    abbrev Enter : Entered → Type 0
+    Enter r = (h : Here) → IncludeHere h store table s t other depth → (h .token .end ≤ length (h .body) → EndsAt h (l .end)) → EnteredBy r h (enterAct h l form w) table depth
 
--- 9: no entry of the table has it
-pub enter-missing : (store : List ℕ) (table : List (List ℕ)) (s : List ℕ) (t : Token) (other : Bool) (depth : ℕ) (l : IncludeLine)
-    (form : ℕ) (w : List ℕ) (i : ℕ) → barredBy other l form w ≡ false → i ≡ entryOf store form w table → length table ≤ i
-    → (h : Here) → IncludeHere h store table s t other depth → enterTurn h l form w ≡ refuseAt h 9 (t .at)
-enter-missing store table s t other depth l form w i e f g h x =
-    rw (x .other-is, e, x .store-is, x .table-is, ← f, le-leb (length table) i g, x .token-is)
+    -- 9: the line or the name bars it
+    pub enter-barred : barredBy other l form w ≡ true → Enter (entered.Refused 9 (t .at))
+    enter-barred e h x y = (rw (x .other-is, e, x .token-is), omega arith)
 
--- 10: 16 files are open
-pub enter-deep : (store : List ℕ) (table : List (List ℕ)) (s : List ℕ) (t : Token) (other : Bool) (depth : ℕ) (l : IncludeLine)
-    (form : ℕ) (w : List ℕ) (i : ℕ) → barredBy other l form w ≡ false → i ≡ entryOf store form w table → i < length table → 16 ≤ depth
-    → (h : Here) → IncludeHere h store table s t other depth → enterTurn h l form w ≡ refuseAt h 10 (t .at)
-enter-deep store table s t other depth l form w i e f g d h x =
-    let k : length (h .others) ≡ depth - 1 = x .depth-is in
-    rw (x .other-is, e, x .store-is, x .table-is, ← f, lt-leb (length table) i g, le-leb 15 (length (h .others)) (omega arith), x .token-is)
+    module _ (i : ℕ) (e : barredBy other l form w ≡ false) (f : i ≡ entryOf store form w table) where
+      -- 9: no entry of the table has it
+      pub enter-missing : length table ≤ i → Enter (entered.Refused 9 (t .at))
+      enter-missing g h x y = (rw (x .other-is, e, x .store-is, x .table-is, ← f, le-leb (length table) i g, x .token-is), omega arith)
 
--- the file is entered
-pub enter-into : (store : List ℕ) (table : List (List ℕ)) (s : List ℕ) (t : Token) (other : Bool) (depth : ℕ) (l : IncludeLine)
-    (form : ℕ) (w : List ℕ) (i : ℕ) → 0 < depth → barredBy other l form w ≡ false → i ≡ entryOf store form w table → i < length table → depth < 16
-    → (h : Here) → IncludeHere h store table s t other depth → Enters h (enterTurn h l form w) table depth i (l .end)
-enter-into store table s t other depth l form w i p e f g d h x =
-    let k : length (h .others) ≡ depth - 1 = x .depth-is in
-    record {
-      turn-is = rw (x .other-is, e, x .store-is, x .table-is, ← f, lt-leb (length table) i g, lt-leb 15 (length (h .others)) (omega arith));
-      entry-in = g;
-      room = d;
-    }
+      module _ (g : i < length table) where
+        -- 10: 16 files are open
+        pub enter-deep : 16 ≤ depth → Enter (entered.Refused 10 (t .at))
+        enter-deep d h x y =
+            let k : length (h .others) ≡ depth - 1 = x .depth-is in (
+              rw (x .other-is, e, x .store-is, x .table-is, ← f, lt-leb (length table) i g, le-leb 15 (length (h .others)) (omega arith), x .token-is),
+              omega arith,
+            )
 
--- 2 to 6 on the line
-pub include-barred : (s : List ℕ) (i : ℕ) (l : IncludeLine) → l ≡ includeAt s i → (l .bars .number ≡ 0 → ⊥)
-    → (h : Here) → includeTurn h (includeAt s i) ≡ refuseAt h (l .bars .number) (l .bars .place)
-include-barred s i l e n h = rw (← e, ne-eqb (l .bars .number) 0 n)
+        -- the file is entered
+        pub enter-into : 0 < depth → depth < 16 → Enter (entered.Into i (l .end))
+        enter-into p d h x y =
+            let k : length (h .others) ≡ depth - 1 = x .depth-is in
+            record {
+              act-is = rw (x .other-is, e, x .store-is, x .table-is, ← f, lt-leb (length table) i g, lt-leb 15 (length (h .others)) (omega arith));
+              entry-in = g;
+              room = d;
+              ends = y;
+            }
 
--- 7: no file is named
-pub include-unnamed : (store : List ℕ) (table : List (List ℕ)) (s : List ℕ) (t : Token) (other : Bool) (depth : ℕ) (l : IncludeLine)
-    → l ≡ includeAt s (t .end) → l .bars .number ≡ 0 → l .file ≡ Unnamed
-    → (h : Here) → IncludeHere h store table s t other depth → includeTurn h (includeAt s (t .end)) ≡ refuseAt h 7 (t .at)
-include-unnamed store table s t other depth l e n f h x = rw (← e, eq-eqb (l .bars .number) 0 n, f, x .token-is)
+  module _ (q : l ≡ includeAt s (t .end)) where
+    -- the answer to the include
+    abbrev Include : Entered → Type 0
+    Include r = (h : Here) → IncludeHere h store table s t other depth → EnteredBy r h (includeAct h (includeAt s (t .end))) table depth
 
-quoted-turn : (s : List ℕ) (i : ℕ) (l : IncludeLine) (a e : ℕ) (w : List ℕ) → l ≡ includeAt s i → l .bars .number ≡ 0 → l .file ≡ Quoted a e
-    → w ≡ part s a e → (h : Here) → h .body ≡ s → includeTurn h (includeAt s i) ≡ enterTurn h l 0 w
-quoted-turn s i l a e w q n f p h b = rw (← q, eq-eqb (l .bars .number) 0 n, f, b, ← p)
+    -- 2 to 6 on the line
+    pub include-barred : (l .bars .number ≡ 0 → ⊥) → Include (entered.Refused (l .bars .number) (l .bars .place))
+    include-barred n h x = (rw (← q, ne-eqb (l .bars .number) 0 n), omega (arith, n))
 
-angled-turn : (s : List ℕ) (i : ℕ) (l : IncludeLine) (a e : ℕ) (w : List ℕ) → l ≡ includeAt s i → l .bars .number ≡ 0 → l .file ≡ Angled a e
-    → w ≡ part s a e → (h : Here) → h .body ≡ s → includeTurn h (includeAt s i) ≡ enterTurn h l 1 w
-angled-turn s i l a e w q n f p h b = rw (← q, eq-eqb (l .bars .number) 0 n, f, b, ← p)
+    module _ (n : l .bars .number ≡ 0) where
+      -- 7: no file is named
+      pub include-unnamed : l .file ≡ Unnamed → Include (entered.Refused 7 (t .at))
+      include-unnamed f h x = (rw (← q, eq-eqb (l .bars .number) 0 n, f, x .token-is), omega arith)
 
--- a file in quotes is entered by its name
-pub include-quoted : (store : List ℕ) (table : List (List ℕ)) (s : List ℕ) (t : Token) (other : Bool) (depth : ℕ) (l : IncludeLine)
-    (a e : ℕ) (w : List ℕ) (r : Entered) → l ≡ includeAt s (t .end) → l .bars .number ≡ 0 → l .file ≡ Quoted a e → w ≡ part s a e
-    → ((h : Here) → IncludeHere h store table s t other depth → EnteredBy r h (enterTurn h l 0 w) table depth)
-    → (h : Here) → IncludeHere h store table s t other depth → EnteredBy r h (includeTurn h (includeAt s (t .end))) table depth
-include-quoted store table s t other depth l a e w r q n f p k h x =
-    rw (quoted-turn s (t .end) l a e w q n f p h (x .body-is)) (k h x)
+      line-ends : (h : Here) → IncludeHere h store table s t other depth → h .token .end ≤ length (h .body) → EndsAt h (l .end)
+      line-ends h x w =
+          let i : Inside (h .body) (h .token .end) (l .end) = rw (x .body-is, x .token-is, q) (include-inside s (t .end) (rw (x .body-is, x .token-is) at w)) in
+          ends-at h (l .end) i
 
--- .. or in angle brackets
-pub include-angled : (store : List ℕ) (table : List (List ℕ)) (s : List ℕ) (t : Token) (other : Bool) (depth : ℕ) (l : IncludeLine)
-    (a e : ℕ) (w : List ℕ) (r : Entered) → l ≡ includeAt s (t .end) → l .bars .number ≡ 0 → l .file ≡ Angled a e → w ≡ part s a e
-    → ((h : Here) → IncludeHere h store table s t other depth → EnteredBy r h (enterTurn h l 1 w) table depth)
-    → (h : Here) → IncludeHere h store table s t other depth → EnteredBy r h (includeTurn h (includeAt s (t .end))) table depth
-include-angled store table s t other depth l a e w r q n f p k h x =
-    rw (angled-turn s (t .end) l a e w q n f p h (x .body-is)) (k h x)
+      module _ (a e : ℕ) (w : List ℕ) (r : Entered) where
+        -- a file in quotes is entered by its name
+        pub include-quoted : l .file ≡ Quoted a e → w ≡ part s a e → Enter 0 w r → Include r
+        include-quoted f p k h x =
+            let u : includeAct h (includeAt s (t .end)) ≡ enterAct h l 0 w = rw (← q, eq-eqb (l .bars .number) 0 n, f, x .body-is, ← p) in
+            rw u (k h x (line-ends h x))
+
+        -- .. or in angle brackets
+        pub include-angled : l .file ≡ Angled a e → w ≡ part s a e → Enter 1 w r → Include r
+        include-angled f p k h x =
+            let u : includeAct h (includeAt s (t .end)) ≡ enterAct h l 1 w = rw (← q, eq-eqb (l .bars .number) 0 n, f, x .body-is, ← p) in
+            rw u (k h x (line-ends h x))

@@ -1,13 +1,14 @@
 -- What the code answers to an include.
 -- Assumes nothing.
-use Prim.Native.Nat.{ℕ, _-_, _<_}
+use Prim.Native.Nat.{ℕ, _-_, _<_, _≤_}
 use mathlib.Core.Bool.{Bool}
 use mathlib.Core.Path.{_≡_}
-use mathlib.Core.List.{List, _∷_}
+use mathlib.Core.List.{List}
 use lib.ListN.{length}
 use Rattle.lex.specs.declared.Token.{Token}
-use Rattle.copying.specs.Cursors.{opening}
-use Rattle.turns.specs.States.{Turn, Here, refuseAt, behind, goTo}
+use Rattle.turns.specs.States.{Here}
+use Rattle.turns.specs.Acts.{Act, refuses, includes}
+use Rattle.turns.specs.Asking.{EndsAt}
 use Rattle.including.specs.declared.Entered.{Entered}
 use Rattle.including.specs.declared.Entered.the-variants as entered
 
@@ -20,12 +21,13 @@ pub record IncludeHere (h : Here) (store : List ℕ) (table : List (List ℕ)) (
   pub other-is : h .frame .cursor .other ≡ other
   pub depth-is : length (h .others) ≡ depth - 1
 
--- the turn that it takes: into file i, which the include at e goes on behind, or refused
-pub record Enters (h : Here) (u : Turn) (table : List (List ℕ)) (depth i e : ℕ) : Type 0 where
-  pub turn-is : u ≡ goTo h (record { file = i; cursor = opening } ∷ behind h e) (h .state .conds) (h .state .macros)
+-- the act that it asks for: into file i, behind the include at e, or refused
+pub record Enters (h : Here) (a : Act) (table : List (List ℕ)) (depth i e : ℕ) : Type 0 where
+  pub act-is : a ≡ includes i e
   pub entry-in : i < length table
   pub room : depth < 16
+  pub ends : h .token .end ≤ length (h .body) → EndsAt h e
 
-abbrev pub EnteredBy : Entered → Here → Turn → List (List ℕ) → ℕ → Type 0
-EnteredBy (entered.Into i e) h u table depth = Enters h u table depth i e
-EnteredBy (entered.Refused n p) h u table depth = u ≡ refuseAt h n p
+abbrev pub EnteredBy : Entered → Here → Act → List (List ℕ) → ℕ → Type 0
+EnteredBy (entered.Into i e) h a table depth = Enters h a table depth i e
+EnteredBy (entered.Refused n p) h a table depth = (a ≡ refuses n p) × (0 < n)

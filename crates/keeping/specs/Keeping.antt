@@ -1,6 +1,6 @@
 -- What the code answers to a directive that is copied and kept as state.
 -- Assumes nothing.
-use Prim.Native.Nat.{ℕ, _≤_}
+use Prim.Native.Nat.{ℕ, _<_, _≤_}
 use mathlib.Core.Path.{_≡_}
 use mathlib.Core.List.{List}
 use lib.ListN.{length}
@@ -9,7 +9,10 @@ use Rattle.settings.specs.declared.Settings.{Settings}
 use Rattle.writing.specs.Written.{Written}
 use Rattle.writing.specs.Buffers.{roomOf, Puts}
 use Rattle.writing.specs.declared.Spot.{Spot}
-use Rattle.turns.specs.States.{State, Turn, more, Here, refuseAt, behind, placeHere, writes}
+use Rattle.turns.specs.States.{more, Here, refuseAt, behind, placeHere, writes}
+use Rattle.turns.specs.Acts.{Act}
+use Rattle.turns.specs.Asking.{EndsAt}
+use Rattle.turns.specs.Performing.{perform}
 use Rattle.keeping.specs.declared.Kept.{Kept}
 use Rattle.keeping.specs.declared.Kept.the-variants as kept
 
@@ -29,11 +32,11 @@ pub record Keepable (s : List ℕ) (place : ℕ) (text map : List ℕ) (z : Spot
   pub in-text : z .written ≤ length text
   pub in-map : z .lines ≤ length map
 
--- the turn that it takes: written up to e, with the state then; or refused, and then nothing is changed
-pub record Keeps (h : Here) (u : Turn) (text text′ map map′ : List ℕ) (c′ : Settings) (z z′ : Spot) (e : ℕ) : Type 0 where
+-- what its act comes to: written up to e, with the state then; or refused, and then nothing is changed
+pub record Keeps (h : Here) (a : Act) (text text′ map map′ : List ℕ) (c′ : Settings) (z z′ : Spot) (e : ℕ) : Type 0 where
   pub written : List Written
   pub turn-is :
-      u ≡ more
+      perform h a ≡ more
       (record {
         frames = behind h e;
         conds = h .state .conds;
@@ -43,10 +46,11 @@ pub record Keeps (h : Here) (u : Turn) (text text′ map map′ : List ℕ) (c�
         left = h .state .left;
       })
       (writes written)
+  pub ends : h .token .end ≤ length (h .body) → EndsAt h e
   pub puts : Puts written text text′ map map′ z z′
   pub in-text : z′ .written ≤ length text
   pub in-map : z′ .lines ≤ length map
 
-abbrev pub KeptBy : Kept → Here → Turn → List ℕ → List ℕ → List ℕ → List ℕ → Spot → Type 0
-KeptBy (kept.To c′ z′ e) h u text text′ map map′ z = Keeps h u text text′ map map′ c′ z z′ e
-KeptBy (kept.Refused n p) h u text text′ map map′ z = (u ≡ refuseAt h n p) × (text′ ≡ text) × (map′ ≡ map)
+abbrev pub KeptBy : Kept → Here → Act → List ℕ → List ℕ → List ℕ → List ℕ → Spot → Type 0
+KeptBy (kept.To c′ z′ e) h a text text′ map map′ z = Keeps h a text text′ map map′ c′ z z′ e
+KeptBy (kept.Refused n p) h a text text′ map map′ z = (perform h a ≡ refuseAt h n p) × (0 < n) × (text′ ≡ text) × (map′ ≡ map)

@@ -1,7 +1,7 @@
 // Directives that are copied as written and kept as state (document 01, "Directives").
 ghost use mathlib.Core.Path.{_≡_};
 ghost use Rattle.turns.specs.States.{Here};
-ghost use Rattle.turns.specs.Turns.{keepTurn};
+ghost use Rattle.turns.specs.Acts.{keepAct};
 ghost use Rattle.keeping.specs.Keeping.{KeepHere, Keepable, KeptBy};
 use directive::Form;
 use directive::form_at;
@@ -32,7 +32,7 @@ pub fn keep(
     z: Spot,
 ) -> Kept
     requires { ⌜ Keepable (now s) place (now text) (now map) z ⌝ }
-    ensures { λ r. ⌜ ((h : Here) → KeepHere h (now (s .entry)) t set place c (now (text .entry)) (now (map .entry)) z → KeptBy r h (keepTurn d h) (now (text .entry)) (now (text .exit)) (now (map .entry)) (now (map .exit)) z) ⌝ }
+    ensures { λ r. ⌜ ((h : Here) → KeepHere h (now (s .entry)) t set place c (now (text .entry)) (now (map .entry)) z → KeptBy r h (keepAct d h) (now (text .entry)) (now (text .exit)) (now (map .entry)) (now (map .exit)) z) ⌝ }
 {
     let f = form_at(d, s, t.end);
     match f {

@@ -13,7 +13,9 @@ use Rattle.names.specs.Names.{Ifdef, Endif, directiveOf}
 use Rattle.blocks.specs.Blocks.{takenBy}
 use Rattle.expand.specs.Expanding.{first, goesOn}
 use Rattle.turns.specs.States.{Context, Frame, State, Turn, more, stop, finished, Here}
-use Rattle.turns.specs.Usages.{afterUsage, usageTurn, takenTurn, tokenTurn, hereAt, frameTurn, turnAt}
+use Rattle.turns.specs.Acts.{takenAct, actAt}
+use Rattle.turns.specs.Usages.{afterUsage, usageTurn}
+use Rattle.turns.specs.Turns.{tokenTurn, hereAt, frameTurn, turnAt}
 use Rattle.passing.specs.Meeting.{isMet, Meets, expansionAt}
 use Rattle.passing.proofs.Cases.{Kinds, turn-is}
 
@@ -52,7 +54,7 @@ turn-in n x s met =
 
 -- the turn at a usage that is met
 met-turn : (h : Here) → isMet h ≡ true → tokenTurn h ≡ usageTurn h
-unfolding tokenTurn takenTurn
+unfolding actAt takenAct
 met-turn h e =
     let t = h .token in
     let d : ℕ = directiveOf (nameOf (h .body) t) in

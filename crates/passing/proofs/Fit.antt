@@ -17,10 +17,12 @@ use Rattle.macros.proofs.Kept.{started-sound}
 use Rattle.handover.specs.Sizes.{HandOver, Rooms, isSound}
 use Rattle.handover.proofs.Laws.{sound-facts}
 use Rattle.turns.specs.States.{Context, State, Made, Turn, more, stop, finished, Here}
-use Rattle.turns.specs.Usages.{usageTurn, hereAt, turnAt}
+use Rattle.turns.specs.Usages.{usageTurn}
+use Rattle.turns.specs.Turns.{hereAt, turnAt}
 use Rattle.turns.specs.Runs.{contextOf, startOf}
 use Rattle.passing.specs.Passing.{formalsOf}
-use Rattle.passing.specs.Meeting.{Through, here, then, expansionAt}
+use Rattle.turns.specs.Through.{Through, start, next}
+use Rattle.passing.specs.Meeting.{expansionAt}
 use Rattle.passing.proofs.Keeping.{Sound, sound-nil}
 use Rattle.passing.proofs.Sound.{macro-sound}
 use Rattle.passing.proofs.Cases.{Leaves, same, defined, undefined, forgotten, Kinds, turn-is}
@@ -61,8 +63,8 @@ module _ (P : Macro → Type 0) (stored : (s : List ℕ) (i : ℕ) (m : Macro) (
 
   -- .. it holds of all of a run
   pub all-each : (x : Context) (s s′ : State) → Each P (s .macros) → Through x s s′ → Each P (s′ .macros)
-  all-each x s s′ ok here = ok
-  all-each x s s′ ok (then {s₁ = s₁} {m = m} t e) = turn-each x s₁ s′ m (all-each x s s₁ ok t) e
+  all-each x s s′ ok start = ok
+  all-each x s s′ ok (next {s₁ = s₁} {m = m} t e) = turn-each x s₁ s′ m (all-each x s s₁ ok t) e
 
 -- ---- fit macros, of a hand-over without refusal 1
 

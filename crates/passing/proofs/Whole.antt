@@ -11,12 +11,14 @@ use Rattle.handover.specs.Entries.{allEntries}
 use Rattle.handover.specs.Sizes.{HandOver, Rooms, isSound}
 use Rattle.handover.proofs.Laws.{sound-facts}
 use Rattle.turns.specs.States.{Context, State, Made, nothing, Turn, more, stop, finished, Here}
-use Rattle.turns.specs.Usages.{outerOf, turnAt}
+use Rattle.turns.specs.Usages.{outerOf}
+use Rattle.turns.specs.Turns.{turnAt}
 use Rattle.turns.specs.Runs.{Run, onto, follow, runFor, runFrom, measure, Outcome, contextOf, startOf, flattened}
 use Rattle.turns.proofs.Running.{run-more, onto-nothing, joined, onto-twice}
 use Rattle.passing.specs.Passing.{formalsOf}
 use Rattle.passing.specs.Chains.{chainFrom}
-use Rattle.passing.specs.Meeting.{Meets, expansionAt, Tame, Soft, Through, here, then, Part, Demand3}
+use Rattle.turns.specs.Through.{Through, start, next}
+use Rattle.passing.specs.Meeting.{Meets, expansionAt, Tame, Soft, Part, Demand3}
 use Rattle.passing.proofs.Keeping.{Sound}
 use Rattle.passing.proofs.Fit.{sound-through}
 use Rattle.passing.proofs.Depths.{TurnIn, turn-in, turn-met}
@@ -26,8 +28,8 @@ use Rattle.passing.proofs.Heart.{heart}
 
 -- the run from a state that it goes through is the rest of the whole
 pub part : (x : Context) (s₀ s : State) → allEntries (x .store) (x .table) ≡ true → Through x s₀ s → Part x s₀ s
-part x s₀ s ok here = record { made = nothing; whole = onto-nothing (runFrom x s₀) }
-part x s₀ s ok (then {s₁ = s₁} {m = m} t e) =
+part x s₀ s ok start = record { made = nothing; whole = onto-nothing (runFrom x s₀) }
+part x s₀ s ok (next {s₁ = s₁} {m = m} t e) =
     let p = part x s₀ s₁ ok t in
     record {
       made = joined (p .made) m;
@@ -48,7 +50,7 @@ run-in : (n : ℕ) (x : Context) (s₀ : State) → ((s : State) → Through x s
 unfolding runFor
 run-in n x s₀ all zero s t = omega arith
 run-in n x s₀ all (suc f) s t =
-    follow-in n s (turnAt x s) (λ s′. runFor f x s′) (all s t) (λ s′ m e. run-in n x s₀ all f s′ (then t e))
+    follow-in n s (turnAt x s) (λ s′. runFor f x s′) (all s t) (λ s′ m e. run-in n x s₀ all f s′ (next t e))
 
 -- ---- demand 3
 
@@ -68,7 +70,7 @@ module _ (h : HandOver) (r : Rooms)
       (λ a w m. let k : chainFrom (s .macros) w ≤ n = met s a w t m .1 in
       let d : expansionAt a w .depth ≤ chainFrom (s .macros) w = each s a w t m (met s a w t m .0) .1 in
       omega arith))
-      (measure x (s₀ .frames)) s₀ here)
+      (measure x (s₀ .frames)) s₀ start)
       (λ q. omega arith)
 
   pub demand3-of : Demand3 h r

@@ -11,8 +11,10 @@ use Rattle.pending.specs.Pending.{fileFrom}
 use Rattle.blocks.specs.Blocks.{takenBy}
 use Rattle.expand.specs.Expanding.{Expansion, first, goesOn, expand}
 use Rattle.handover.specs.Sizes.{HandOver, Rooms, isSound}
-use Rattle.turns.specs.States.{Context, Frame, State, Made, more, Here}
-use Rattle.turns.specs.Usages.{outerOf, afterUsage, hereAt, turnAt}
+use Rattle.turns.specs.States.{Context, Frame, State, Made, Here}
+use Rattle.turns.specs.Usages.{outerOf, afterUsage}
+use Rattle.turns.specs.Turns.{hereAt, turnAt}
+use Rattle.turns.specs.Through.{Through}
 use Rattle.turns.specs.Runs.{onto, runFrom, contextOf, startOf, flattened}
 use Rattle.passing.specs.Passing.{yes, passOf}
 use Rattle.passing.specs.Chains.{tame, chainFrom}
@@ -48,11 +50,6 @@ pub data Soft : ℕ → Type 0 where
   limit : Soft 18
   text-room : Soft 19
   map-room : Soft 20
-
--- the states that a run goes through
-pub data Through (x : Context) (s : State) : State → Type 0 where
-  here : Through x s s
-  then : {s₁ s₂ : State} {m : Made} → Through x s s₁ → turnAt x s₁ ≡ more s₂ m → Through x s s₂
 
 -- a state's part in a run: what was made before it, and the run from there
 pub record Part (x : Context) (s₀ s : State) : Type 0 where

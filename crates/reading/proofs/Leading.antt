@@ -24,8 +24,9 @@ use Rattle.copying.specs.Cursors.{stopsAt, cursorPast}
 use Rattle.copying.specs.Copying.{tokenOn, copyOf, Copies, Skips}
 use Rattle.handover.specs.Entries.{bodyOf}
 use Rattle.turns.specs.States.{Context, Frame, nothing, writes, more, stop, Here, refuse, framesAt, onPut, placeHere}
-use Rattle.turns.specs.Turns.{copyTurn, skipTurn, conditionalTurn}
-use Rattle.turns.specs.Usages.{tokenTurn, turnAt}
+use Rattle.turns.specs.Acts.{copies, skips, conditionalAct, actAt}
+use Rattle.turns.specs.Performing.{perform}
+use Rattle.turns.specs.Turns.{tokenTurn, turnAt}
 use Rattle.turns.specs.Leading.{Leads, standing}
 use Rattle.reading.proofs.Lining.{or-left, or-right}
 
@@ -42,22 +43,22 @@ module _ (h : Here) where
     no-bar : not (eqb (h .token .bar) 0) ≡ false
     no-bar = or-right (is End (h .token)) _ (or-right (is Grave (h .token)) _ g)
 
-    token-copied : takenBy (h .state .conds) ≡ true → tokenTurn h ≡ copyTurn h
-    unfolding tokenTurn
+    token-copied : takenBy (h .state .conds) ≡ true → tokenTurn h ≡ perform h copies
+    unfolding actAt
     token-copied k = simp (no-grave, no-end, no-bar, k)
 
-    token-skipped : takenBy (h .state .conds) ≡ false → tokenTurn h ≡ skipTurn h
-    unfolding tokenTurn
+    token-skipped : takenBy (h .state .conds) ≡ false → tokenTurn h ≡ perform h skips
+    unfolding actAt
     token-skipped k = simp (no-grave, no-end, no-bar, k)
 
   token-barred : (h .token .bar ≡ 0 → ⊥) → tokenTurn h ≡ refuse h (h .token .bar)
-  unfolding tokenTurn
+  unfolding actAt
   token-barred n = simp (ne-eqb (h .token .bar) 0 n)
 
   token-chosen : h .token .bar ≡ 0 → is End (h .token) ≡ false → is Grave (h .token) ≡ true
       → (leb Ifdef (directiveOf (nameOf (h .body) (h .token))) && leb (directiveOf (nameOf (h .body) (h .token))) Endif) ≡ true
-      → tokenTurn h ≡ conditionalTurn (directiveOf (nameOf (h .body) (h .token))) h
-  unfolding tokenTurn
+      → tokenTurn h ≡ perform h (conditionalAct (directiveOf (nameOf (h .body) (h .token))) h)
+  unfolding actAt
   token-chosen b e g k = simp (eq-eqb (h .token .bar) 0 b, e, g, k)
 
 -- the token at a cursor, with this around it
@@ -112,11 +113,11 @@ module _ (a : Context) (fs : List Frame) (ms : List Macro) (st : Settings) (left
         turn-on c cs r ∙ token-barred (hereOn a fs ms st left file s c cs r) m ∙ ap (λ (x : Token). stop (x .bar) file (x .at) nothing) (sym q)
 
     pub word-turn : tokenOn s c .bar ≡ 0 → is End (tokenOn s c) ≡ false → is Grave (tokenOn s c) ≡ true → (d : ℕ) → d ≡ directiveOf (nameOf s (tokenOn s c)) → 6 ≤ d → d ≤ 10
-        → turnAt a (standing fs ms st left file c cs r) ≡ conditionalTurn d (hereOn a fs ms st left file s c cs r)
+        → turnAt a (standing fs ms st left file c cs r) ≡ perform (hereOn a fs ms st left file s c cs r) (conditionalAct d (hereOn a fs ms st left file s c cs r))
     word-turn b e g d q l u =
         let h : Here = hereOn a fs ms st left file s c cs r in
         let k : (leb Ifdef d && leb d Endif) ≡ true = rw (le-leb Ifdef d l, le-leb d Endif u) in
-        turn-on c cs r ∙ token-chosen h b e g (rw q at k) ∙ ap (λ (n : ℕ). conditionalTurn n h) (sym q)
+        turn-on c cs r ∙ token-chosen h b e g (rw q at k) ∙ ap (λ (n : ℕ). perform h (conditionalAct n h)) (sym q)
 
   pub copies-lead : (cs : List Conditional) {c c′ : Cursor} {r r′ : Room} {ws : List Written} → takenBy cs ≡ true → Copies s (placeOf file 0) c r ws c′ r′
       → Leads a (standing fs ms st left file c cs r) ws (standing fs ms st left file c′ cs r′)

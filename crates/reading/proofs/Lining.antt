@@ -27,11 +27,9 @@ use Rattle.directive.specs.declared.Form.{Form}
 use Rattle.directive.specs.declared.Form.the-variants as form
 use Rattle.directive.specs.Words.{wraps, wordIn, wordAt}
 use Rattle.directive.specs.Forms.{nameBy, nameForm, takesName, formAt}
-use Rattle.definition.specs.Definitions.{Macro}
 use Rattle.blocks.specs.Blocks.{Conditional, openBlock, nextBlock, closeBlock}
-use Rattle.copying.specs.Cursors.{cursorBehind}
-use Rattle.turns.specs.States.{Frame, Turn, more, stop, finished, Here, behind, goTo}
-use Rattle.turns.specs.Turns.{onForm, isDefined, onBlocks, conditionTurn, conditionalTurn}
+use Rattle.turns.specs.States.{Here}
+use Rattle.turns.specs.Acts.{Act, refuses, branches, onForm, isDefined, onBlocks, conditionAct, conditionalAct}
 use Rattle.turns.proofs.Inside.{inside-here, inside-on}
 
 pub or-left : (a b : Bool) → (a || b) ≡ false → a ≡ false
@@ -144,46 +142,40 @@ takes-name d a b p q = go (eqb d Ifdef) (eqb d Ifndef) (eqb d Elsif) refl refl r
     go false false false u v w =
         absurd (omega (arith, eqb-false d Endif p, eqb-false d Else q, eqb-false d Ifdef u, eqb-false d Ifndef v, eqb-false d Elsif w))
 
--- ---- turns
+-- ---- acts
 
-FramesOn : List ℕ → ℕ → List Frame → Type 0
-FramesOn s i [] = Unit {0}
-FramesOn s i (f ∷ fs) = Level s i (f .cursor .at)
-
--- a turn that goes on stands on this line then
-TurnOn : List ℕ → ℕ → Turn → Type 0
-TurnOn s i (more st m) = FramesOn s i (st .frames)
-TurnOn s i (stop n f p m) = Unit {0}
-TurnOn s i finished = Unit {0}
+-- a conditional word whose act goes on stands on this line then
+abbrev ActOn : List ℕ → ℕ → Act → Type 0
+ActOn s i a = (cs : List Conditional) (e : ℕ) → a ≡ branches cs e → Level s i e
 
 module _ (h : Here) (w : h .token .end ≤ length (h .body)) where
-  abbrev On : Turn → Type 0
-  On u = TurnOn (h .body) (h .token .end) u
+  abbrev On : Act → Type 0
+  On a = ActOn (h .body) (h .token .end) a
 
-  blocks-on : (e : ℕ) (o : Option (List Conditional)) → Level (h .body) (h .token .end) e → On (onBlocks h e o)
-  unfolding TurnOn FramesOn cursorBehind
-  blocks-on e none l = tt
-  blocks-on e (some cs) l = l
+  refuses-on : (n p : ℕ) → On (refuses n p)
+  refuses-on n p cs e q = let z : _≡_ {A = ℕ} 0 1 = cc in absurd (omega arith)
 
-  form-on : (f : Form) (k : Value → ℕ → Turn) → FormOn (h .body) (h .token .end) f → ((v : Value) (e : ℕ) → Level (h .body) (h .token .end) e → On (k v e))
-      → On (onForm h f k)
-  unfolding TurnOn FormOn
+  blocks-on : (e : ℕ) (o : Option (List Conditional)) → Level (h .body) (h .token .end) e → On (onBlocks (h .token .at) e o)
+  blocks-on e none l = refuses-on 8 (h .token .at)
+  blocks-on e (some cs) l = λ ds f q. let z : e ≡ f = cc in subst (Level (h .body) (h .token .end)) z l
+
+  form-on : (f : Form) (k : Value → ℕ → Act) → FormOn (h .body) (h .token .end) f → ((v : Value) (e : ℕ) → Level (h .body) (h .token .end) e → On (k v e))
+      → On (onForm (h .token .at) f k)
+  unfolding FormOn
   form-on (form.Formed v e) k l g = g v e l
-  form-on form.Unformed k l g = tt
-  form-on (form.Barred n p) k l g = tt
+  form-on form.Unformed k l g = refuses-on 7 (h .token .at)
+  form-on (form.Barred n p) k l g = refuses-on n p
 
-  conditional-on : (d : ℕ) → 6 ≤ d → d ≤ 10 → On (conditionalTurn d h)
-  unfolding conditionalTurn
+  conditional-on : (d : ℕ) → 6 ≤ d → d ≤ 10 → On (conditionalAct d h)
+  unfolding conditionalAct
   conditional-on d a b =
       let o : Level (h .body) (h .token .end) (h .token .end) = level-here (h .body) (h .token .end) w in
       by-test On (eqb d Endif) (λ e. blocks-on (h .token .end) (closeBlock (h .state .conds)) o)
       (λ p. by-test On (eqb d Else) (λ e. blocks-on (h .token .end) (nextBlock true true (h .state .conds)) o)
-      (λ q. subst (λ (f : Form). On (onForm h f (conditionTurn d h))) (sym (named-form d (h .body) (h .token .end) (takes-name d a b p q)))
-      (form-on (nameForm (h .body) (h .token .end)) (conditionTurn d h) (name-on (h .body) (h .token .end) w)
+      (λ q. subst (λ (f : Form). On (onForm (h .token .at) f (conditionAct d h))) (sym (named-form d (h .body) (h .token .end) (takes-name d a b p q)))
+      (form-on (nameForm (h .body) (h .token .end)) (conditionAct d h) (name-on (h .body) (h .token .end) w)
       (λ v e l. by-test On (eqb d Elsif) (λ z. blocks-on e (nextBlock (isDefined h v) false (h .state .conds)) l)
       (λ z. blocks-on e (openBlock (h .frame .file) (h .token .at) (cond (eqb d Ifdef) (isDefined h v) (not (isDefined h v))) (h .state .conds)) l)))))
 
-  pub word-level : (d : ℕ) → 6 ≤ d → d ≤ 10 → (e : ℕ) (cs : List Conditional) (ms : List Macro) → conditionalTurn d h ≡ goTo h (behind h e) cs ms
-      → Level (h .body) (h .token .end) e
-  unfolding TurnOn FramesOn cursorBehind
-  word-level d a b e cs ms q = subst (λ (u : Turn). On u) q (conditional-on d a b)
+  pub word-level : (d : ℕ) → 6 ≤ d → d ≤ 10 → (cs : List Conditional) (e : ℕ) → conditionalAct d h ≡ branches cs e → Level (h .body) (h .token .end) e
+  word-level d a b = conditional-on d a b

@@ -31,9 +31,10 @@ use Rattle.copying.specs.Copying.{tokenOn, Copyable, CopiesTo}
 use Rattle.copying.specs.declared.Copied.{Copied}
 use Rattle.copying.specs.declared.Copied.the-variants as copied
 use Rattle.copying.specs.declared.Cursor.{Cursor}
-use Rattle.turns.specs.States.{Context, Frame, nothing, Here}
-use Rattle.turns.specs.Turns.{conditionalTurn}
-use Rattle.turns.specs.Usages.{turnAt}
+use Rattle.turns.specs.States.{Context, Frame, Here}
+use Rattle.turns.specs.Acts.{conditionalAct}
+use Rattle.turns.specs.Performing.{perform}
+use Rattle.turns.specs.Turns.{turnAt}
 use Rattle.turns.specs.Leading.{Leads, standing}
 use Rattle.turns.proofs.Leading.{leads-append}
 use Rattle.choosing.specs.Choosing.{Word, Chooses, ChosenBy}
@@ -205,20 +206,20 @@ module _ {s : List ℕ} {file : ℕ} {b : List ℕ} {rs : List (List ℕ)} {n : 
       accent = word-grave s c in-file (rw (o .token-is) at (o .stops)) free
 
       word-is : (a : Context) (fs : List Frame) (ms : List Macro) (st : Settings) (left : ℕ) (r : Room) → bodyOf (a .store) (a .table) file ≡ s
-          → turnAt a (standing fs ms st left file c (openIn w (k .open)) r) ≡ conditionalTurn d (hereOn a fs ms st left file s c (openIn w (k .open)) r)
+          → turnAt a (standing fs ms st left file c (openIn w (k .open)) r) ≡ perform (hereOn a fs ms st left file s c (openIn w (k .open)) r) (conditionalAct d (hereOn a fs ms st left file s c (openIn w (k .open)) r))
       word-is a fs ms st left r body = word-turn a fs ms st left file s body c (openIn w (k .open)) r free (token-some inFile s (c .at) in-file) accent d named low high
 
       module _ (stored : Stored b rs n) (x : Chosen) (w′ : List (List ℕ))
-          (does : (h : Here) → Word h s t file w k b rs n → ChosenBy x h (conditionalTurn d h) w w′) where
+          (does : (h : Here) → Word h s t file w k b rs n → ChosenBy x (conditionalAct d h) w w′) where
         -- the word in any run
         at-word : (a : Context) (fs : List Frame) (ms : List Macro) (st : Settings) (left : ℕ) (r : Room) → Holds ms b rs n
-            → ChosenBy x (hereOn a fs ms st left file s c (openIn w (k .open)) r) (conditionalTurn d (hereOn a fs ms st left file s c (openIn w (k .open)) r)) w w′
+            → ChosenBy x (conditionalAct d (hereOn a fs ms st left file s c (openIn w (k .open)) r)) w w′
         at-word a fs ms st left r holds =
             does (hereOn a fs ms st left file s c (openIn w (k .open)) r)
             (record { body-is = refl; token-is = sym (o .token-is); file-is = refl; conds-are = refl; macros-are = holds })
 
         -- .. and in one that there is
-        some-word : ChosenBy x (hereOn nowhere [] (stored .macros) (resetTo 0) 0 file s c (openIn w (k .open)) noRoom) (conditionalTurn d (hereOn nowhere [] (stored .macros) (resetTo 0) 0 file s c (openIn w (k .open)) noRoom)) w w′
+        some-word : ChosenBy x (conditionalAct d (hereOn nowhere [] (stored .macros) (resetTo 0) 0 file s c (openIn w (k .open)) noRoom)) w w′
         some-word = at-word nowhere [] (stored .macros) (resetTo 0) 0 noRoom (stored .holds)
 
         pub answers-refused : {i p : ℕ} → x ≡ chosen.Refused i p → Answers (reached.Refused c z k i p) s file b rs n w₀ w′ text₀ text map₀ map c₀ z₀ k₀
@@ -228,23 +229,23 @@ module _ {s : List ℕ} {file : ℕ} {b : List ℕ} {rs : List (List ℕ)} {n : 
               record { copyable = o .onward .copyable; blocks-are = o .onward .blocks-are },
               λ a fs ms st left body holds. (
                 o .onward .reads-to a fs ms st left body holds,
-                word-is a fs ms st left (roomOf (length text₀) (length map₀) z) body ∙ (rw y at (at-word a fs ms st left (roomOf (length text₀) (length map₀) z) holds)) .0,
+                word-is a fs ms st left (roomOf (length text₀) (length map₀) z) body ∙ ap (perform (hereOn a fs ms st left file s c (openIn w (k .open)) (roomOf (length text₀) (length map₀) z))) ((rw y at (at-word a fs ms st left (roomOf (length text₀) (length map₀) z) holds)) .0),
               ),
             )
 
         module _ {k′ : Blocks} {e : ℕ} (y : x ≡ chosen.To k′ e) where
-          chooses : Chooses (hereOn nowhere [] (stored .macros) (resetTo 0) 0 file s c (openIn w (k .open)) noRoom) (conditionalTurn d (hereOn nowhere [] (stored .macros) (resetTo 0) 0 file s c (openIn w (k .open)) noRoom)) w′ k′ e
+          chooses : Chooses (conditionalAct d (hereOn nowhere [] (stored .macros) (resetTo 0) 0 file s c (openIn w (k .open)) noRoom)) w′ k′ e
           chooses = rw y at some-word
 
           -- the word ends on its line
           level : Level s (c .at) e
           level =
               level-on (token-level inFile refl s (c .at) in-file (other-kind (λ i. eqb i Grave) Newline refl (tokenOn s c .kind) accent) (other-kind (λ i. eqb i Grave) String refl (tokenOn s c .kind) accent) (rw (other-kind (λ i. eqb i Grave) BlockComment refl (tokenOn s c .kind) accent)))
-              (word-level (hereOn nowhere [] (stored .macros) (resetTo 0) 0 file s c (openIn w (k .open)) noRoom) (token-within inFile s (c .at) in-file) d low high e (openIn w′ (k′ .open)) (stored .macros) (chooses .turn-is))
+              (word-level (hereOn nowhere [] (stored .macros) (resetTo 0) 0 file s c (openIn w (k .open)) noRoom) (token-within inFile s (c .at) in-file) d low high (openIn w′ (k′ .open)) e (chooses .act-is))
 
           longer : c .at < e
           longer =
-              let l = word-level (hereOn nowhere [] (stored .macros) (resetTo 0) 0 file s c (openIn w (k .open)) noRoom) (token-within inFile s (c .at) in-file) d low high e (openIn w′ (k′ .open)) (stored .macros) (chooses .turn-is) in
+              let l = word-level (hereOn nowhere [] (stored .macros) (resetTo 0) 0 file s c (openIn w (k .open)) noRoom) (token-within inFile s (c .at) in-file) d low high (openIn w′ (k′ .open)) e (chooses .act-is) in
               omega (arith, l .inside .past, token-ends inFile s (c .at) in-file)
 
           cursor-flat : cursorBehind s e c ≡ record { at = e; line = c .line; other = true; comment = false }
@@ -279,10 +280,10 @@ module _ {s : List ℕ} {file : ℕ} {b : List ℕ} {rs : List (List ℕ)} {n : 
                   reads-to =
                       λ a fs ms st left body holds. let r = v .reads-to a fs ms st left body holds in
                       let room = roomOf (length text₀) (length map₀) z in
-                      let g : Chooses (hereOn a fs ms st left file s c (openIn w (k .open)) room) (conditionalTurn d (hereOn a fs ms st left file s c (openIn w (k .open)) room)) w′ k′ e = rw y at (at-word a fs ms st left room holds) in
+                      let g : Chooses (conditionalAct d (hereOn a fs ms st left file s c (openIn w (k .open)) room)) w′ k′ e = rw y at (at-word a fs ms st left room holds) in
                       record {
                         written = r .written;
-                        leads = rw (append-nil (r .written)) at (leads-append (r .leads) (rw cursor-flat at (Leads.then (word-is a fs ms st left room body ∙ g .turn-is) Leads.here)));
+                        leads = rw (append-nil (r .written)) at (leads-append (r .leads) (rw cursor-flat at (Leads.then (word-is a fs ms st left room body ∙ ap (perform (hereOn a fs ms st left file s c (openIn w (k .open)) room)) (g .act-is)) Leads.here)));
                         puts = r .puts;
                       };
                 })

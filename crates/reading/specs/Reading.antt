@@ -23,7 +23,7 @@ use Rattle.copying.specs.declared.Copied.{Copied}
 use Rattle.copying.specs.declared.Copied.the-variants as copied
 use Rattle.copying.specs.declared.Cursor.{Cursor}
 use Rattle.turns.specs.States.{Context, Frame, stop, nothing}
-use Rattle.turns.specs.Usages.{turnAt}
+use Rattle.turns.specs.Turns.{turnAt}
 use Rattle.turns.specs.Leading.{Leads, standing}
 use Rattle.reading.specs.declared.Reached.{Reached}
 use Rattle.reading.specs.declared.Reached.the-variants as reached

@@ -1,34 +1,25 @@
 -- As more than 256 macros never fit, a flattening with more than 256 records lent is that with 256.
 -- Assumes nothing.
 use Prim.Native.Nat.{ℕ, zero, suc, _≤_}
-use mathlib.Core.Bool.{Bool, true, false, cond, not, _&&_}
+use mathlib.Core.Bool.{Bool, true, false, cond, _&&_}
 use mathlib.Core.List.{List, [], _∷_}
 use mathlib.Core.Path.{_≡_, refl, _∙_, ap}
 use native.Mathlib.Omega.{arith}
-use lib.Dec.{eqb, leb, ltb}
+use lib.Dec.{leb, ltb}
 use lib.ListN.{length}
 use borrow.Author.Tests.{leb-true, leb-false, ltb-true, ltb-false, le-leb, lt-leb}
-use mathlib.Core.Option.{Option, none, some}
-use Rattle.lex.specs.Tokens.{Grave, End, is, nameOf}
-use Rattle.names.specs.Names.{FileWord, LineWord, Define, Undef, UndefineAll, Ifdef, Elsif, Else, Endif, Include, Resetall, EndKeywords, directiveOf}
-use Rattle.directive.specs.declared.Value.{Value}
-use Rattle.directive.specs.declared.Form.{Form}
-use Rattle.directive.specs.declared.Form.the-variants.{Formed, Unformed, Barred}
-use Rattle.directive.specs.declared.FileName.{FileName}
-use Rattle.directive.specs.declared.FileName.the-variants.{Unnamed, Quoted, Angled}
-use Rattle.directive.specs.declared.IncludeLine.{IncludeLine}
-use Rattle.directive.specs.Include.{includeAt}
-use Rattle.definition.specs.Definitions.{Macro, Definition, barred, bad, good, definitionAt}
+use Rattle.definition.specs.Definitions.{Macro}
 use Rattle.store.specs.Stores.{encode, define, fits}
 use Rattle.macros.specs.Starting.{startsFit, started}
 use Rattle.settings.specs.declared.Settings.{Settings}
 use Rattle.writing.specs.Written.{Written, Put, full, fitted, putIn}
-use Rattle.blocks.specs.Blocks.{Conditional, takenBy, openBlock, nextBlock, closeBlock}
 use Rattle.handover.specs.Sizes.{HandOver, Rooms, isSound}
 use Rattle.turns.specs.States.{Context, Frame, State, Turn, more, stop, finished, Here, behind, goTo, refuse, onPut, write}
-use Rattle.turns.specs.Turns.{onForm, formHere, isDefined, onBlocks, conditionTurn, conditionalTurn, defineTurn, hideTurn, includeBy}
-use Rattle.turns.specs.Usages.{takenTurn, tokenTurn, hereAt, frameTurn, turnAt}
+use Rattle.turns.specs.Acts.{Act, refuses, leaves, copies, skips, hides, branches, defines, undefines, includes, keeps, spells, expands, actAt}
+use Rattle.turns.specs.Performing.{perform}
+use Rattle.turns.specs.Turns.{tokenTurn, hereAt, frameTurn, turnAt}
 use Rattle.turns.specs.Runs.{Run, onto, follow, runFor, measure, runFrom, contextOf, startOf, outcomeOf, notTaken, flattened}
+use Rattle.turns.proofs.Acts.{act-same}
 use Rattle.records.specs.Rows.{few}
 
 pub few-least : (n : ℕ) → few n ≤ n
@@ -70,26 +61,10 @@ fits-few n b ms = go (leb (length ms) 256) refl
 abbrev fewIn : Context → Context
 fewIn x = record { store = x .store; table = x .table; set = x .set; records = few (x .records); bytes = x .bytes }
 
-both : (b : Bool) {x x′ y y′ : Turn} → x ≡ x′ → y ≡ y′ → cond b x y ≡ cond b x′ y′
-both true e g = e
-both false e g = g
-
 module _ (h : Here) where
   abbrev thin : Here
   thin =
       record { context = fewIn (h .context); state = h .state; frame = h .frame; others = h .others; body = h .body; token = h .token }
-
-  define-few : (d : Definition) → defineTurn thin d ≡ defineTurn h d
-  define-few (barred n p) = refl
-  define-few (bad e) = refl
-  define-few (good m e) =
-      let ms = define m (h .state .macros) in
-      ap (λ (b : Bool). cond b (goTo h (behind h e) (h .state .conds) ms) (refuse h 12)) (fits-few (h .context .records) (h .context .bytes) ms)
-
-  form-few : (f : Form) (g g′ : Value → ℕ → Turn) → ((v : Value) (e : ℕ) → g v e ≡ g′ v e) → onForm thin f g ≡ onForm h f g′
-  form-few (Formed v e) g g′ k = k v e
-  form-few Unformed g g′ k = refl
-  form-few (Barred n p) g g′ k = refl
 
   put-few : (ws : List Written) (fs : List Frame) (c : Settings) (p : Put) → onPut thin ws fs c p ≡ onPut h ws fs c p
   put-few ws fs c (full n) = refl
@@ -98,56 +73,29 @@ module _ (h : Here) where
   write-few : (ws : List Written) (fs : List Frame) (c : Settings) → write thin ws fs c ≡ write h ws fs c
   write-few ws fs c = put-few ws fs c (putIn (h .state .room) ws)
 
-  blocks-few : (e : ℕ) (cs : Option (List Conditional)) → onBlocks thin e cs ≡ onBlocks h e cs
-  blocks-few e none = refl
-  blocks-few e (some cs) = refl
+  leave-few : (b : Bool) (u : Turn) {t t′ : Turn} → t ≡ t′ → cond b t u ≡ cond b t′ u
+  leave-few true u e = e
+  leave-few false u e = refl
 
-  condition-few : (d : ℕ) (v : Value) (e : ℕ) → conditionTurn d thin v e ≡ conditionTurn d h v e
-  condition-few d v e =
-      both (eqb d Elsif) (blocks-few e (nextBlock (isDefined h v) false (h .state .conds)))
-      (blocks-few e (openBlock (h .frame .file) (h .token .at) (cond (eqb d Ifdef) (isDefined h v) (not (isDefined h v))) (h .state .conds)))
-
-  conditional-few : (d : ℕ) → conditionalTurn d thin ≡ conditionalTurn d h
-  unfolding conditionalTurn
-  conditional-few d =
-      both (eqb d Endif) (blocks-few (h .token .end) (closeBlock (h .state .conds)))
-      (both (eqb d Else) (blocks-few (h .token .end) (nextBlock true true (h .state .conds)))
-      (form-few (formHere d h) (conditionTurn d thin) (conditionTurn d h) (condition-few d)))
-
-  hide-few : (d : Definition) → hideTurn thin d ≡ hideTurn h d
-  hide-few (barred n p) = refl
-  hide-few (bad e) = refl
-  hide-few (good m e) = refl
-
-  named-few : (l : IncludeLine) (f : FileName) → includeBy thin l f ≡ includeBy h l f
-  named-few l Unnamed = refl
-  named-few l (Quoted i e) = refl
-  named-few l (Angled i e) = refl
-
-  taken-few : (d : ℕ) → takenTurn d thin ≡ takenTurn d h
-  unfolding takenTurn
-  taken-few d =
-      let l = includeAt (h .body) (h .token .end) in
-      both (eqb d 0) refl
-      (both (eqb d Define) (define-few (definitionAt (h .body) (h .token .end)))
-      (both (eqb d Undef) (form-few (formHere Undef h) _ _ (λ v e. refl))
-      (both (eqb d UndefineAll) refl
-      (both (eqb d Include) (both (eqb (l .bars .number) 0) (named-few l (l .file)) refl)
-      (both (leb Resetall d && leb d EndKeywords) (form-few (formHere d h) _ _ (λ v e. write-few _ _ _))
-      (both (eqb d FileWord) (write-few _ _ _)
-      (both (eqb d LineWord) (write-few _ _ _) refl)))))))
+  act-few : (a : Act) → perform thin a ≡ perform h a
+  act-few (refuses n p) = refl
+  act-few leaves = leave-few (h .frame .cursor .comment) _ (write-few _ _ _)
+  act-few copies = write-few _ _ _
+  act-few skips = refl
+  act-few (hides e) = refl
+  act-few (branches cs e) = refl
+  act-few (defines m e) =
+      let ms = define m (h .state .macros) in
+      ap (λ (b : Bool). cond b (goTo h (behind h e) (h .state .conds) ms) (refuse h 12)) (fits-few (h .context .records) (h .context .bytes) ms)
+  act-few (undefines ms e) = refl
+  act-few (includes i e) = refl
+  act-few (keeps v e) = write-few _ _ _
+  act-few (spells w) = write-few _ _ _
+  act-few expands = refl
 
   token-few : tokenTurn thin ≡ tokenTurn h
-  unfolding tokenTurn
   token-few =
-      let d = directiveOf (nameOf (h .body) (h .token)) in
-      both (not (eqb (h .token .bar) 0)) refl
-      (both (is End (h .token)) (both (h .frame .cursor .comment) (write-few _ _ _) refl)
-      (both (is Grave (h .token))
-      (both (leb Ifdef d && leb d Endif) (conditional-few d)
-      (both (takenBy (h .state .conds)) (taken-few d)
-      (both (eqb d Define) (hide-few (definitionAt (h .body) (h .token .end))) refl)))
-      (both (takenBy (h .state .conds)) (write-few _ _ _) refl)))
+      ap (perform thin) (act-same h (h .state .room) (few (h .context .records)) (h .context .bytes)) ∙ act-few (actAt h)
 
 module _ (x : Context) where
   frame-few : (s : State) (fs : List Frame) → frameTurn (fewIn x) s fs ≡ frameTurn x s fs

@@ -19,7 +19,7 @@ use Rattle.blocks.specs.declared.Blocks.{Blocks}
 use Rattle.handover.specs.Entries.{allEntries}
 use Rattle.copying.specs.declared.Cursor.{Cursor}
 use Rattle.turns.specs.States.{Context, Frame, State, Made, writes, nothing, Turn, more, stop, finished}
-use Rattle.turns.specs.Usages.{tokenTurn, lastTurn, frameTurn, turnAt}
+use Rattle.turns.specs.Turns.{tokenTurn, lastTurn, frameTurn, turnAt}
 use Rattle.turns.specs.Leading.{Leads, standing}
 use Rattle.turns.specs.Runs.{Run, ends, onto, measure, runFrom}
 use Rattle.turns.proofs.Progress.{turn-falls}

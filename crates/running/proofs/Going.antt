@@ -1,26 +1,23 @@
 -- Where a step goes: behind a directive, back to the file around, into a file; and what it refuses.
 -- Assumes nothing.
 use Prim.Native.Nat.{ℕ, zero, suc, max, _+_, _-_, _<_, _≤_}
-use mathlib.Core.Bool.{Bool, true, false, _&&_, _||_}
+use mathlib.Core.Bool.{Bool, true, false}
 use mathlib.Core.List.{List, [], _∷_, append-nil}
 use mathlib.Core.Path.{_≡_, refl, sym, ap, subst, _∙_}
 use native.Mathlib.Omega.{arith}
-use lib.Dec.{eqb, leb}
+use lib.Dec.{eqb}
 use lib.ListN.{length, getD, set, drop, length-set, length-take}
 use lib.Seq.{getD-set-same, getD-set-other}
 use borrow.Author.Tests.{eqb-true, eqb-false}
 use Rattle.text.specs.Bytes.{part}
 use Rattle.lex.specs.declared.Token.{Token}
 use Rattle.lex.specs.Tokens.{inFile, tokenAt}
-use Rattle.lex.proofs.Tests.{by-test, true-false}
+use Rattle.lex.proofs.Tests.{true-false}
 use Rattle.lex.proofs.Progress.{Inside, token-at}
 use Rattle.names.specs.Names.{Undef}
 use Rattle.directive.specs.declared.Value.{Value}
 use Rattle.directive.specs.declared.Form.{Form}
 use Rattle.directive.specs.declared.Form.the-variants as form
-use Rattle.directive.specs.declared.FileName.{FileName}
-use Rattle.directive.specs.declared.FileName.the-variants.{Unnamed, Quoted, Angled}
-use Rattle.directive.specs.declared.IncludeLine.{IncludeLine}
 use Rattle.directive.specs.Forms.{formAt}
 use Rattle.directive.specs.Include.{includeAt}
 use Rattle.definition.specs.Definitions.{Macro}
@@ -38,26 +35,31 @@ use Rattle.writing.proofs.Laws.{puts-none, puts-append, puts-text, puts-map}
 use Rattle.places.specs.Places.{newlines, placeOf}
 use Rattle.places.proofs.Lines.{newlines-length}
 use Rattle.blocks.specs.Stacks.{openIn}
-use Rattle.handover.specs.Entries.{blankEntry, bodyOf, entryOf}
+use Rattle.handover.specs.Entries.{blankEntry, bodyOf}
 use Rattle.handover.proofs.Laws.{entries-sound, entry-body}
 use Rattle.handover.proofs.Walking.{read-any}
 use Rattle.copying.specs.declared.Cursor.{Cursor}
 use Rattle.copying.specs.Cursors.{opening, cursorBehind}
 use Rattle.copying.specs.Copying.{Reads}
-use Rattle.turns.specs.States.{Context, Frame, State, Made, nothing, writes, Turn, more, stop, finished, Here, refuseAt, behind, goTo, placeHere}
-use Rattle.turns.specs.Turns.{nameIn, onForm, endTurn, undefTurn, enterTurn, includeBy, includeTurn}
-use Rattle.turns.proofs.Inside.{inside-on, token-inside, include-inside, form-inside}
+use Rattle.turns.specs.States.{Context, Frame, State, Made, nothing, writes, Turn, more, stop, finished, Here, behind, goTo, placeHere}
+use Rattle.turns.specs.Acts as acts
+use Rattle.turns.specs.Acts.{Act, nameIn, onForm, undefAct, includeAct}
+use Rattle.turns.specs.Asking.{EndsAt}
+use Rattle.turns.specs.Performing.{perform}
+use Rattle.turns.proofs.Inside.{inside-on, token-inside}
+use Rattle.turns.proofs.Forms.{BarredIn, form-inside, form-bars}
+use Rattle.turns.proofs.Asking.{as-inside}
 use Rattle.choosing.specs.declared.Named.{Named}
 use Rattle.choosing.specs.declared.Named.the-variants as named
 use Rattle.choosing.specs.Choosing.{NamedBy}
 use Rattle.including.specs.declared.Entered.{Entered}
 use Rattle.including.specs.declared.Entered.the-variants as entered
 use Rattle.including.specs.Including.{IncludeHere, Enters, EnteredBy}
+use Rattle.keeping.proofs.Keeping.{put-number}
 use Rattle.running.specs.declared.stage.Stage.{Stage}
 use Rattle.running.specs.declared.stage.Step.{Step}
 use Rattle.running.specs.declared.stage.Step.the-variants as step
-use Rattle.running.specs.Standing.{Bufs, bufs, blankFrame, frameIn, outerFrames, openFrames, hereOf, endedAt, withCursor, withSpot, enteredAt, FrameOk, Ok, Fixed, At, Moves, isEnd, Stops, SteppedBy}
-use Rattle.running.proofs.Barring.{form-number, put-number}
+use Rattle.running.specs.Standing.{Bufs, bufs, blankFrame, frameIn, outerFrames, openFrames, hereOf, endedAt, withCursor, withSpot, enteredAt, FrameOk, Ok, Fixed, At, Moves, isEnd, Stops, SteppedBy, Performed}
 
 -- ---- the open files
 
@@ -153,9 +155,9 @@ ok-at tx mp bs bs′ rs rs′ fr fr′ cd z d f c n o a b r k l m =
     }
 
 -- a refusal of a number that is not 0, with nothing written
-pub stops : (B B′ : Bufs) (ms : List Macro) (z : Stage) (n p : ℕ) (u : Turn) → (n ≡ 0 → ⊥) → u ≡ stop n (z .file) p nothing
+pub stops : (B B′ : Bufs) (ms : List Macro) (z : Stage) (n p : ℕ) (u : Turn) → 0 < n → u ≡ stop n (z .file) p nothing
     → B′ .text ≡ B .text → B′ .map ≡ B .map → Holds ms (B′ .bytes) (B′ .records) (z .macros) → Stops B B′ ms z z n (z .file) p u
-stops B B′ ms z zero p u a e t m h = absurd (a refl)
+stops B B′ ms z zero p u a e t m h = absurd (omega arith)
 stops B B′ ms z (suc n) p u a e t m h =
     record {
       made = nothing;
@@ -168,7 +170,7 @@ stops B B′ ms z (suc n) p u a e t m h =
     }
 
 pub refuses : (fs : List ℕ) (es : List (List ℕ)) (limit : ℕ) (B : Bufs) (ms : List Macro) (z : Stage) (r : Step) (n p : ℕ) (u : Turn) → r ≡ endedAt z n (z .file) p
-    → (n ≡ 0 → ⊥) → u ≡ stop n (z .file) p nothing → Holds ms (B .bytes) (B .records) (z .macros) → SteppedBy r fs es limit B B ms z u
+    → 0 < n → u ≡ stop n (z .file) p nothing → Holds ms (B .bytes) (B .records) (z .macros) → SteppedBy r fs es limit B B ms z u
 refuses fs es limit B ms z r n p u q a e h = rw q (stops B B ms z n p u a e refl refl h)
 
 -- ---- behind a directive
@@ -200,6 +202,12 @@ module _ {x : Context} {fs : List ℕ} {es : List (List ℕ)} {kind : ℕ} {B : 
   pub token-at-here : tokenAt inFile (bodyOf (x .store) (x .table) (z .file)) (z .cursor .at) ≡ t
   token-at-here = rw body-here (a .token-is)
 
+  -- a directive's end, behind its token in the file
+  pub inside-there : (limit : ℕ) (ms : List Macro) (e : ℕ) → Ok fs es B z
+      → let h = hereOf x limit B ms z in (h .token .end ≤ length (h .body) → EndsAt h e) → Inside s (t .end) e
+  inside-there limit ms e o i =
+      rw (token-at-here, body-here) at (as-inside (hereOf x limit B ms z) e (i (rw (token-at-here, body-here) (token-here a o .within))))
+
 module _ (x : Context) (fs : List ℕ) (es : List (List ℕ)) (kind limit : ℕ) (tx mp bs bs′ : List ℕ) (rs rs′ fr cd : List (List ℕ)) (ms ms′ : List Macro) (z : Stage)
     (s : List ℕ) (t : Token) (e n : ℕ) (u : Turn) where
   -- the turn goes behind a directive that ends at e, to other macros
@@ -223,8 +231,7 @@ pub undef-all-on : (s : List ℕ) (t : Token) (bs bs′ : List ℕ) (rs rs′ : 
     → y ≡ withCursor z (cursorBehind s (t .end) (z .cursor)) → Holds [] bs′ rs′ 0
     → (x : Context) (ms : List Macro) (fs : List ℕ) (es : List (List ℕ)) (kind limit : ℕ) (tx mp : List ℕ) (fr cd : List (List ℕ))
     → Fixed x fs es kind (bufs tx mp bs rs fr cd) → At fs es s t z → Ok fs es (bufs tx mp bs rs fr cd) z → Holds ms bs rs (z .macros)
-    → SteppedBy (step.On (placedAt y (y .depth) (y .file) (y .cursor) 0)) fs es limit (bufs tx mp bs rs fr cd) (bufs tx mp bs′ rs′ fr cd) ms z
-    (goTo (hereOf x limit (bufs tx mp bs rs fr cd) ms z) (behind (hereOf x limit (bufs tx mp bs rs fr cd) ms z) (t .end)) (openIn cd (z .blocks .open)) [])
+    → Performed (step.On (placedAt y (y .depth) (y .file) (y .cursor) 0)) x fs es limit (bufs tx mp bs rs fr cd) (bufs tx mp bs′ rs′ fr cd) ms z (λ h. acts.undefines [] (t .end))
 undef-all-on s t bs bs′ rs rs′ z y q h x ms fs es kind limit tx mp fr cd f a o k =
     rw q
     (goes-behind x fs es kind limit tx mp bs bs′ rs rs′ fr cd ms [] z s t (t .end) 0 _ f a o
@@ -257,40 +264,35 @@ pub undef-on : (s : List ℕ) (t : Token) (bs bs′ : List ℕ) (rs rs′ : List
     → ((ms : List Macro) → Holds ms bs rs (z .macros) → Holds (undefine w ms) bs′ rs′ n)
     → (x : Context) (ms : List Macro) (fs : List ℕ) (es : List (List ℕ)) (kind limit : ℕ) (tx mp : List ℕ) (fr cd : List (List ℕ))
     → Fixed x fs es kind (bufs tx mp bs rs fr cd) → At fs es s t z → Ok fs es (bufs tx mp bs rs fr cd) z → Holds ms bs rs (z .macros)
-    → SteppedBy (step.On (placedAt y (y .depth) (y .file) (y .cursor) n)) fs es limit (bufs tx mp bs rs fr cd) (bufs tx mp bs′ rs′ fr cd) ms z
-    (undefTurn (hereOf x limit (bufs tx mp bs rs fr cd) ms z))
+    → Performed (step.On (placedAt y (y .depth) (y .file) (y .cursor) n)) x fs es limit (bufs tx mp bs rs fr cd) (bufs tx mp bs′ rs′ fr cd) ms z (λ h. undefAct h)
 undef-on s t bs bs′ rs rs′ z y g a b e n w p q v c k x ms fs es kind limit tx mp fr cd f at o h =
     let r : NameRead (formAt Undef s (t .end)) s a b e = name-read (formAt Undef s (t .end)) s (t .at) a b e (subst (λ (g : Named). NamedBy g (formAt Undef s (t .end)) s (t .at)) q p) in
     let i : Inside s (t .end) e = form-inside s (t .end) (token-here at o .within) Undef (r .value) e (r .form-is) in
     let m : Holds (undefine w ms) bs′ rs′ n = k ms h in
     let few : n ≤ 256 = omega (arith, m .count, undefine-few w ms, h .count, o .few-macros) in
     let H = hereOf x limit (bufs tx mp bs rs fr cd) ms z in
-    let turn : undefTurn H ≡ goTo H (behind H e) (openIn cd (z .blocks .open)) (undefine w ms) = rw (token-at-here f at, body-here f at, r .form-is, r .name-is, ← v) in
-    rw c (goes-behind x fs es kind limit tx mp bs bs′ rs rs′ fr cd ms (undefine w ms) z s t e n (undefTurn H) f at o i turn m few)
+    let turn : perform H (undefAct H) ≡ goTo H (behind H e) (openIn cd (z .blocks .open)) (undefine w ms) = rw (token-at-here f at, body-here f at, r .form-is, r .name-is, ← v) in
+    rw c (goes-behind x fs es kind limit tx mp bs bs′ rs rs′ fr cd ms (undefine w ms) z s t e n (perform H (undefAct H)) f at o i turn m few)
 
 -- 7, or 2 to 6
-record NameRefused (h : Here) (g : Form) (k : Value → ℕ → Turn) (n p : ℕ) : Type 0 where
-  numbered : n ≡ 0 → ⊥
-  turn-is : onForm h g k ≡ refuseAt h n p
-
-name-refused : (h : Here) (g : Form) (k : Value → ℕ → Turn) (s : List ℕ) (n p : ℕ) → ((m i : ℕ) → g ≡ form.Barred m i → 0 < m)
-    → NamedBy (named.Refused n p) g s (h .token .at) → NameRefused h g k n p
+name-refused : (h : Here) (g : Form) (k : Value → ℕ → Act) (s : List ℕ) (n p : ℕ) → ((m i : ℕ) → g ≡ form.Barred m i → BarredIn s m i)
+    → NamedBy (named.Refused n p) g s (h .token .at) → (onForm (h .token .at) g k ≡ acts.refuses n p) × (0 < n)
 name-refused h (form.Formed v i) k s n p b q = absurd q
-name-refused h form.Unformed k s n p b q = record { numbered = λ z. omega (arith, q .0); turn-is = rw (q .0, q .1) }
-name-refused h (form.Barred m i) k s n p b q = record { numbered = λ z. omega (arith, b m i refl, q .0); turn-is = rw (q .0, q .1) }
+name-refused h form.Unformed k s n p b q = (rw (q .0, q .1), omega (arith, q .0))
+name-refused h (form.Barred m i) k s n p b q = (rw (q .0, q .1), omega (arith, b m i refl .low, q .0))
 
 pub undef-refused : (s : List ℕ) (t : Token) (bs : List ℕ) (rs : List (List ℕ)) (z : Stage) (g : Named) (n p : ℕ) (r : Step)
     → NamedBy g (formAt Undef s (t .end)) s (t .at) → g ≡ named.Refused n p → r ≡ endedAt z n (z .file) p
     → (x : Context) (ms : List Macro) (fs : List ℕ) (es : List (List ℕ)) (kind limit : ℕ) (tx mp : List ℕ) (fr cd : List (List ℕ))
     → Fixed x fs es kind (bufs tx mp bs rs fr cd) → At fs es s t z → Ok fs es (bufs tx mp bs rs fr cd) z → Holds ms bs rs (z .macros)
-    → SteppedBy r fs es limit (bufs tx mp bs rs fr cd) (bufs tx mp bs rs fr cd) ms z (undefTurn (hereOf x limit (bufs tx mp bs rs fr cd) ms z))
+    → Performed r x fs es limit (bufs tx mp bs rs fr cd) (bufs tx mp bs rs fr cd) ms z (λ h. undefAct h)
 undef-refused s t bs rs z g n p r e q c x ms fs es kind limit tx mp fr cd f at o h =
     let H = hereOf x limit (bufs tx mp bs rs fr cd) ms z in
     let b = H .body in
     let named : NamedBy (named.Refused n p) (formAt Undef b (H .token .end)) b (H .token .at) =
     rw (token-at-here f at, body-here f at) (subst (λ (g : Named). NamedBy g (formAt Undef s (t .end)) s (t .at)) q e) in
-    let y = name-refused H (formAt Undef b (H .token .end)) _ b n p (form-number b Undef (H .token .end)) named in
-    refuses fs es limit (bufs tx mp bs rs fr cd) ms z r n p (undefTurn H) c (y .numbered) (y .turn-is) h
+    let y = name-refused H (formAt Undef b (H .token .end)) (λ v e. acts.undefines (undefine (nameIn v b) ms) e) b n p (form-bars b Undef (H .token .end)) named in
+    refuses fs es limit (bufs tx mp bs rs fr cd) ms z r n p (perform H (undefAct H)) c (y .1) (ap (perform H) (y .0)) h
 
 -- ---- back to the file around
 
@@ -305,12 +307,16 @@ frame-reads {fs = fs} {es = es} v f k =
       line-small = k .line-small;
     }
 
--- to none
-pub leave-last : (fr : List (List ℕ)) (z : Stage) (n : ℕ) → n ≡ z .depth - 1 → n ≡ 0
-    → (x : Context) (ms : List Macro) (fs : List ℕ) (es : List (List ℕ)) (kind limit : ℕ) (tx mp bs : List ℕ) (rs cd : List (List ℕ))
+-- what a step out of the innermost file does
+abbrev Left : List (List ℕ) → Stage → Step → Type 0
+Left fr z r =
+    (x : Context) (ms : List Macro) (fs : List ℕ) (es : List (List ℕ)) (kind limit : ℕ) (tx mp bs : List ℕ) (rs cd : List (List ℕ))
     → Fixed x fs es kind (bufs tx mp bs rs fr cd) → 0 < z .depth → Ok fs es (bufs tx mp bs rs fr cd) z → Holds ms bs rs (z .macros)
-    → SteppedBy (step.On (placedAt z n (z .file) (z .cursor) (z .macros))) fs es limit (bufs tx mp bs rs fr cd) (bufs tx mp bs rs fr cd) ms z
+    → SteppedBy r fs es limit (bufs tx mp bs rs fr cd) (bufs tx mp bs rs fr cd) ms z
     (goTo (hereOf x limit (bufs tx mp bs rs fr cd) ms z) (outerFrames fr (z .depth - 1)) (openIn cd (z .blocks .open)) ms)
+
+-- to none
+pub leave-last : (fr : List (List ℕ)) (z : Stage) (n : ℕ) → n ≡ z .depth - 1 → n ≡ 0 → Left fr z (step.On (placedAt z n (z .file) (z .cursor) (z .macros)))
 leave-last fr z n e q x ms fs es kind limit tx mp bs rs cd f d o h =
     let a : z .depth ≤ 16 = o .few-files in (
       goes x limit tx mp bs bs rs rs fr fr cd ms ms z n (z .file) (z .cursor) (z .macros) _ _ refl (outer-none fr n (z .file) (z .cursor) q ∙ ap (outerFrames fr) e) h,
@@ -319,10 +325,7 @@ leave-last fr z n e q x ms fs es kind limit tx mp bs rs cd f d o h =
 
 -- to the innermost frame
 pub leave-outer : (fr : List (List ℕ)) (z : Stage) (n : ℕ) (v : List ℕ) → n ≡ z .depth - 1 → (n ≡ 0 → ⊥) → v ≡ getD fr (n - 1) []
-    → (x : Context) (ms : List Macro) (fs : List ℕ) (es : List (List ℕ)) (kind limit : ℕ) (tx mp bs : List ℕ) (rs cd : List (List ℕ))
-    → Fixed x fs es kind (bufs tx mp bs rs fr cd) → 0 < z .depth → Ok fs es (bufs tx mp bs rs fr cd) z → Holds ms bs rs (z .macros)
-    → SteppedBy (step.On (placedAt z n (frameIn v .file) (frameIn v .cursor) (z .macros))) fs es limit (bufs tx mp bs rs fr cd) (bufs tx mp bs rs fr cd) ms z
-    (goTo (hereOf x limit (bufs tx mp bs rs fr cd) ms z) (outerFrames fr (z .depth - 1)) (openIn cd (z .blocks .open)) ms)
+    → Left fr z (step.On (placedAt z n (frameIn v .file) (frameIn v .cursor) (z .macros)))
 leave-outer fr z n v e q w x ms fs es kind limit tx mp bs rs cd f d o h =
     let a : z .depth ≤ 16 = o .few-files in
     let l : 16 ≤ length fr = o .frames-lent in
@@ -337,17 +340,14 @@ leave-outer fr z n v e q w x ms fs es kind limit tx mp bs rs cd f d o h =
 
 -- ---- the end of a file
 
-end-goes : (h : Here) → h .frame .cursor .comment ≡ false → endTurn h ≡ goTo h (h .others) (h .state .conds) (h .state .macros)
+end-goes : (h : Here) → h .frame .cursor .comment ≡ false → perform h acts.leaves ≡ goTo h (h .others) (h .state .conds) (h .state .macros)
 end-goes h e = rw e
 
 pub end-plain : (fr : List (List ℕ)) (z : Stage) (r : Step) (text map : List ℕ) → z .cursor .comment ≡ false
-    → ((x : Context) (ms : List Macro) (fs : List ℕ) (es : List (List ℕ)) (kind limit : ℕ) (tx mp bs : List ℕ) (rs cd : List (List ℕ))
-    → Fixed x fs es kind (bufs tx mp bs rs fr cd) → 0 < z .depth → Ok fs es (bufs tx mp bs rs fr cd) z → Holds ms bs rs (z .macros)
-    → SteppedBy r fs es limit (bufs tx mp bs rs fr cd) (bufs tx mp bs rs fr cd) ms z
-    (goTo (hereOf x limit (bufs tx mp bs rs fr cd) ms z) (outerFrames fr (z .depth - 1)) (openIn cd (z .blocks .open)) ms))
+    → Left fr z r
     → (x : Context) (ms : List Macro) (fs : List ℕ) (es : List (List ℕ)) (kind limit : ℕ) (bs : List ℕ) (rs cd : List (List ℕ))
     → Fixed x fs es kind (bufs text map bs rs fr cd) → 0 < z .depth → Ok fs es (bufs text map bs rs fr cd) z → Holds ms bs rs (z .macros)
-    → SteppedBy r fs es limit (bufs text map bs rs fr cd) (bufs text map bs rs fr cd) ms z (endTurn (hereOf x limit (bufs text map bs rs fr cd) ms z))
+    → Performed r x fs es limit (bufs text map bs rs fr cd) (bufs text map bs rs fr cd) ms z (λ h. acts.leaves)
 end-plain fr z r text map e k x ms fs es kind limit bs rs cd f d o h =
     subst (λ (u : Turn). SteppedBy r fs es limit (bufs text map bs rs fr cd) (bufs text map bs rs fr cd) ms z u)
     (sym (end-goes (hereOf x limit (bufs text map bs rs fr cd) ms z) e)) (k x ms fs es kind limit text map bs rs cd f d o h)
@@ -413,18 +413,15 @@ stateAt h v text map =
 
 end-turn : (h : Here) (v : Spot) (text map text′ map′ : ℕ) → h .frame .cursor .comment ≡ true → text ≡ text′ → map ≡ map′
     → putIn (h .state .room) (placed 1 (placeHere h) (10 ∷ [])) ≡ fitted (roomOf text map v)
-    → endTurn h ≡ more (stateAt h v text′ map′) (writes (placed 1 (placeHere h) (10 ∷ [])))
+    → perform h acts.leaves ≡ more (stateAt h v text′ map′) (writes (placed 1 (placeHere h) (10 ∷ [])))
 end-turn h v text map text′ map′ e p q b = rw (e, b, p, q)
 
 pub end-written : (fr : List (List ℕ)) (z y : Stage) (v : Spot) (g : Wrote) (r : Step) (text text′ map map′ : List ℕ) (place : ℕ) → z .cursor .comment ≡ true
     → place ≡ placeOf (z .file) (z .cursor .line) → WroteBy g (placed 1 place (10 ∷ [])) text text′ map map′ (z .spot) → g ≡ wrote.Upto v → y ≡ withSpot z v
-    → ((x : Context) (ms : List Macro) (fs : List ℕ) (es : List (List ℕ)) (kind limit : ℕ) (tx mp bs : List ℕ) (rs cd : List (List ℕ))
-    → Fixed x fs es kind (bufs tx mp bs rs fr cd) → 0 < y .depth → Ok fs es (bufs tx mp bs rs fr cd) y → Holds ms bs rs (y .macros)
-    → SteppedBy r fs es limit (bufs tx mp bs rs fr cd) (bufs tx mp bs rs fr cd) ms y
-    (goTo (hereOf x limit (bufs tx mp bs rs fr cd) ms y) (outerFrames fr (y .depth - 1)) (openIn cd (y .blocks .open)) ms))
+    → Left fr y r
     → (x : Context) (ms : List Macro) (fs : List ℕ) (es : List (List ℕ)) (kind limit : ℕ) (bs : List ℕ) (rs cd : List (List ℕ))
     → Fixed x fs es kind (bufs text map bs rs fr cd) → 0 < z .depth → Ok fs es (bufs text map bs rs fr cd) z → Holds ms bs rs (z .macros)
-    → SteppedBy r fs es limit (bufs text map bs rs fr cd) (bufs text′ map′ bs rs fr cd) ms z (endTurn (hereOf x limit (bufs text map bs rs fr cd) ms z))
+    → Performed r x fs es limit (bufs text map bs rs fr cd) (bufs text′ map′ bs rs fr cd) ms z (λ h. acts.leaves)
 end-written fr z y v g r text text′ map map′ place e p w q t k x ms fs es kind limit bs rs cd f d o h =
     let ws = placed 1 (placeOf (z .file) (z .cursor .line)) (10 ∷ []) in
     let H = hereOf x limit (bufs text map bs rs fr cd) ms z in
@@ -453,11 +450,8 @@ end-written fr z y v g r text text′ map map′ place e p w q t k x ms fs es ki
       few-entries = f .few-entries;
       bytes-small = f .bytes-small;
     } in
-    let k′ = subst (λ (y : Stage). (x : Context) (ms : List Macro) (fs : List ℕ) (es : List (List ℕ)) (kind limit : ℕ) (tx mp bs : List ℕ) (rs cd : List (List ℕ))
-    → Fixed x fs es kind (bufs tx mp bs rs fr cd) → 0 < y .depth → Ok fs es (bufs tx mp bs rs fr cd) y → Holds ms bs rs (y .macros)
-    → SteppedBy r fs es limit (bufs tx mp bs rs fr cd) (bufs tx mp bs rs fr cd) ms y
-    (goTo (hereOf x limit (bufs tx mp bs rs fr cd) ms y) (outerFrames fr (y .depth - 1)) (openIn cd (y .blocks .open)) ms)) t k in
-    after-put fs es limit text text′ map map′ bs rs fr cd ms z v ws (stateAt H v (length text′) (length map′)) (endTurn H) r a
+    let k′ = subst (λ (y : Stage). Left fr y r) t k in
+    after-put fs es limit text text′ map map′ bs rs fr cd ms z v ws (stateAt H v (length text′) (length map′)) (perform H acts.leaves) r a
     (end-turn H v (length text) (length map) (length text′) (length map′) e (sym lt) (sym lm) b)
     (k′ x ms fs es kind limit text′ map′ bs rs cd f′ d o′ h)
 
@@ -467,61 +461,18 @@ pub end-full : (fr : List (List ℕ)) (z : Stage) (n : ℕ) (g : Wrote) (r : Ste
     → r ≡ endedAt z n (z .file) (z .cursor .at)
     → (x : Context) (ms : List Macro) (fs : List ℕ) (es : List (List ℕ)) (kind limit : ℕ) (bs : List ℕ) (rs cd : List (List ℕ))
     → Fixed x fs es kind (bufs text map bs rs fr cd) → 0 < z .depth → Ok fs es (bufs text map bs rs fr cd) z → Holds ms bs rs (z .macros)
-    → SteppedBy r fs es limit (bufs text map bs rs fr cd) (bufs text′ map′ bs rs fr cd) ms z (endTurn (hereOf x limit (bufs text map bs rs fr cd) ms z))
+    → Performed r x fs es limit (bufs text map bs rs fr cd) (bufs text′ map′ bs rs fr cd) ms z (λ h. acts.leaves)
 end-full fr z n g r text text′ map map′ place e p w q t x ms fs es kind limit bs rs cd f d o h =
     let ws = placed 1 (placeOf (z .file) (z .cursor .line)) (10 ∷ []) in
     let H = hereOf x limit (bufs text map bs rs fr cd) ms z in
     let w₁ : WroteBy g ws text text′ map map′ (z .spot) = subst (λ (p : ℕ). WroteBy g (placed 1 p (10 ∷ [])) text text′ map map′ (z .spot)) p w in
     let w₂ : WroteBy (wrote.Full n) ws text text′ map map′ (z .spot) = subst (λ (g : Wrote). WroteBy g ws text text′ map map′ (z .spot)) q w₁ in
     let b : putIn (roomOf (length text) (length map) (z .spot)) ws ≡ full n = w₂ .0 in
-    let u : endTurn H ≡ stop n (z .file) (z .cursor .at) nothing = rw (e, b, token-at inFile (H .body) (z .cursor .at)) in
+    let u : perform H acts.leaves ≡ stop n (z .file) (z .cursor .at) nothing = rw (e, b, token-at inFile (H .body) (z .cursor .at)) in
     let l : 0 < n = put-number (roomOf (length text) (length map) (z .spot)) ws n b in
-    rw (w₂ .1, w₂ .2) (refuses fs es limit (bufs text map bs rs fr cd) ms z r n (z .cursor .at) (endTurn H) t (λ i. omega arith) u h)
+    rw (w₂ .1, w₂ .2) (refuses fs es limit (bufs text map bs rs fr cd) ms z r n (z .cursor .at) (perform H acts.leaves) t l u h)
 
 -- ---- into a file
-
--- a refusal has a number; the file around goes on at i or later
-FramesIn : List ℕ → ℕ → List Frame → Type 0
-FramesIn s i [] = Unit {0}
-FramesIn s i (f ∷ []) = Unit {0}
-FramesIn s i (f ∷ g ∷ fs) = Inside s i (g .cursor .at)
-
-TurnIn : List ℕ → ℕ → Turn → Type 0
-TurnIn s i (more st m) = FramesIn s i (st .frames)
-TurnIn s i (stop n f p m) = n ≡ 0 → ⊥
-TurnIn s i finished = Unit {0}
-
-module _ (h : Here) (s : List ℕ) (i : ℕ) where
-  refuse-in : (n p : ℕ) → (n ≡ 0 → ⊥) → TurnIn s i (refuseAt h n p)
-  unfolding TurnIn
-  refuse-in n p a = a
-
-  enter-in : (l : IncludeLine) (form : ℕ) (w : List ℕ) → Inside s i (l .end) → TurnIn s i (enterTurn h l form w)
-  unfolding TurnIn FramesIn cursorBehind
-  enter-in l form w k =
-      let j = entryOf (h .context .store) form w (h .context .table) in
-      by-test (TurnIn s i) (h .frame .cursor .other || (l .other || (eqb form 1 && eqb (getD w 0 0) 47))) (λ e. λ q. omega arith)
-      (λ e. by-test (TurnIn s i) (leb (length (h .context .table)) j) (λ e. λ q. omega arith)
-      (λ e. by-test (TurnIn s i) (leb 15 (length (h .others))) (λ e. λ q. omega arith) (λ e. k)))
-
-  include-by : (l : IncludeLine) (n : FileName) → Inside s i (l .end) → TurnIn s i (includeBy h l n)
-  include-by l Unnamed k = refuse-in 7 (h .token .at) (λ q. omega arith)
-  include-by l (Quoted a e) k = enter-in l 0 (part (h .body) a e) k
-  include-by l (Angled a e) k = enter-in l 1 (part (h .body) a e) k
-
-  include-in : (l : IncludeLine) → Inside s i (l .end) → TurnIn s i (includeTurn h l)
-  include-in l k =
-      by-test (TurnIn s i) (eqb (l .bars .number) 0) (λ e. include-by l (l .file) k)
-      (λ e. refuse-in (l .bars .number) (l .bars .place) (eqb-false (l .bars .number) 0 e))
-
-  into-in : (j e : ℕ) (u : Turn) → TurnIn s i u
-      → u ≡ goTo h (record { file = j; cursor = opening } ∷ behind h e) (h .state .conds) (h .state .macros) → Inside s i e
-  unfolding TurnIn FramesIn cursorBehind
-  into-in j e u k q = subst (TurnIn s i) q k
-
-  refused-in : (n p : ℕ) (u : Turn) → TurnIn s i u → u ≡ refuseAt h n p → n ≡ 0 → ⊥
-  unfolding TurnIn
-  refused-in n p u k q = subst (TurnIn s i) q k
 
 include-here : (x : Context) (fs : List ℕ) (es : List (List ℕ)) (kind limit : ℕ) (B : Bufs) (ms : List Macro) (z : Stage) (s : List ℕ) (t : Token) → Fixed x fs es kind B → At fs es s t z
     → IncludeHere (hereOf x limit B ms z) fs es s t (z .cursor .other) (z .depth)
@@ -566,17 +517,17 @@ frames-ok fs es fr d v p l o f k h = go (eqb k (d - 1)) refl
     go false e = rw (getD-set-other fr (d - 1) k v blankFrame (eqb-false k (d - 1) e)) (o k (omega (arith, eqb-false k (d - 1) e)))
 
 pub enter-on : (fs : List ℕ) (es : List (List ℕ)) (s : List ℕ) (t : Token) (fr : List (List ℕ)) (z y r : Stage) (g : Entered) (i e : ℕ)
-    → ((h : Here) → IncludeHere h fs es s t (z .cursor .other) (z .depth) → EnteredBy g h (includeTurn h (includeAt s (t .end))) es (z .depth))
+    → ((h : Here) → IncludeHere h fs es s t (z .cursor .other) (z .depth) → EnteredBy g h (includeAct h (includeAt s (t .end))) es (z .depth))
     → g ≡ entered.Into i e → y ≡ withCursor z (cursorBehind s e (z .cursor)) → r ≡ enteredAt z i
     → (x : Context) (ms : List Macro) (kind limit : ℕ) (tx mp bs : List ℕ) (rs cd : List (List ℕ))
     → Fixed x fs es kind (bufs tx mp bs rs fr cd) → At fs es s t z → Ok fs es (bufs tx mp bs rs fr cd) z → Holds ms bs rs (z .macros)
-    → SteppedBy (step.On r) fs es limit (bufs tx mp bs rs fr cd) (bufs tx mp bs rs (set fr (z .depth - 1) (z .file ∷ y .cursor .at ∷ y .cursor .line ∷ [])) cd) ms z
-    (includeTurn (hereOf x limit (bufs tx mp bs rs fr cd) ms z) (includeAt s (t .end)))
+    → Performed (step.On r) x fs es limit (bufs tx mp bs rs fr cd) (bufs tx mp bs rs (set fr (z .depth - 1) (z .file ∷ y .cursor .at ∷ y .cursor .line ∷ [])) cd) ms z
+    (λ h. includeAct h (includeAt s (t .end)))
 enter-on fs es s t fr z y r g i e k q c w x ms kind limit tx mp bs rs cd f a o h =
     let H = hereOf x limit (bufs tx mp bs rs fr cd) ms z in
-    let u = includeTurn H (includeAt s (t .end)) in
+    let u = includeAct H (includeAt s (t .end)) in
     let n : Enters H u es (z .depth) i e = subst (λ (g : Entered). EnteredBy g H u es (z .depth)) q (k H (include-here x fs es kind limit (bufs tx mp bs rs fr cd) ms z s t f a)) in
-    let j : Inside s (t .end) e = into-in H s (t .end) i e u (include-in H s (t .end) (includeAt s (t .end)) (include-inside s (t .end) (token-here a o .within))) (n .turn-is) in
+    let j : Inside s (t .end) e = inside-there f a limit ms e o (n .ends) in
     let v = around z (cursorBehind s e (z .cursor)) in
     let d : 0 < z .depth = a .open-file in
     let m : z .depth < 16 = n .room in
@@ -591,20 +542,20 @@ enter-on fs es s t fr z y r g i e k q c w x ms kind limit tx mp bs rs cd f a o h
     ∙ ap (λ (f : Frame). f ∷ outerFrames fr (z .depth - 1)) (around-is z s e)
     ∙ ap (λ (b : List ℕ). record { file = z .file; cursor = cursorBehind b e (z .cursor) } ∷ outerFrames fr (z .depth - 1)) (sym (body-here f a))) in
     rw (w, c) (
-      goes x limit tx mp bs bs rs rs fr (set fr (z .depth - 1) v) cd ms ms z (z .depth + 1) i opening (z .macros) _ u (n .turn-is) frames h,
+      goes x limit tx mp bs bs rs rs fr (set fr (z .depth - 1) v) cd ms ms z (z .depth + 1) i opening (z .macros) _ (perform H u) (ap (perform H) (n .act-is)) frames h,
       ok-at tx mp bs bs rs rs fr (set fr (z .depth - 1) v) cd z (z .depth + 1) i opening (z .macros) o (omega arith) (n .entry-in)
           (open-reads f i (n .entry-in)) (frames-ok fs es fr (z .depth) v d (omega arith) (o .outer) fit) (rw length-set l) (o .few-macros),
     )
 
 pub enter-refused : (fs : List ℕ) (es : List (List ℕ)) (s : List ℕ) (t : Token) (fr : List (List ℕ)) (z : Stage) (r : Step) (g : Entered) (n p : ℕ)
-    → ((h : Here) → IncludeHere h fs es s t (z .cursor .other) (z .depth) → EnteredBy g h (includeTurn h (includeAt s (t .end))) es (z .depth))
+    → ((h : Here) → IncludeHere h fs es s t (z .cursor .other) (z .depth) → EnteredBy g h (includeAct h (includeAt s (t .end))) es (z .depth))
     → g ≡ entered.Refused n p → r ≡ endedAt z n (z .file) p
     → (x : Context) (ms : List Macro) (kind limit : ℕ) (tx mp bs : List ℕ) (rs cd : List (List ℕ))
     → Fixed x fs es kind (bufs tx mp bs rs fr cd) → At fs es s t z → Ok fs es (bufs tx mp bs rs fr cd) z → Holds ms bs rs (z .macros)
-    → SteppedBy r fs es limit (bufs tx mp bs rs fr cd) (bufs tx mp bs rs fr cd) ms z (includeTurn (hereOf x limit (bufs tx mp bs rs fr cd) ms z) (includeAt s (t .end)))
+    → Performed r x fs es limit (bufs tx mp bs rs fr cd) (bufs tx mp bs rs fr cd) ms z (λ h. includeAct h (includeAt s (t .end)))
 enter-refused fs es s t fr z r g n p k q c x ms kind limit tx mp bs rs cd f a o h =
     let H = hereOf x limit (bufs tx mp bs rs fr cd) ms z in
-    let u = includeTurn H (includeAt s (t .end)) in
-    let v : u ≡ refuseAt H n p = subst (λ (g : Entered). EnteredBy g H u es (z .depth)) q (k H (include-here x fs es kind limit (bufs tx mp bs rs fr cd) ms z s t f a)) in
-    refuses fs es limit (bufs tx mp bs rs fr cd) ms z r n p u c
-    (refused-in H s (t .end) n p u (include-in H s (t .end) (includeAt s (t .end)) (include-inside s (t .end) (token-here a o .within))) v) v h
+    let u = includeAct H (includeAt s (t .end)) in
+    let v : EnteredBy (entered.Refused n p) H u es (z .depth) =
+    subst (λ (g : Entered). EnteredBy g H u es (z .depth)) q (k H (include-here x fs es kind limit (bufs tx mp bs rs fr cd) ms z s t f a)) in
+    refuses fs es limit (bufs tx mp bs rs fr cd) ms z r n p (perform H u) c (v .1) (ap (perform H) (v .0)) h

@@ -1,4 +1,4 @@
--- The turn at a token that ends reading: the file's end, a grave accent name in taken text, and one in ignored text.
+-- The act at a token that ends reading: the file's end, a grave accent name in taken text, and one in ignored text.
 -- Assumes nothing.
 use Prim.Native.Nat.{ℕ}
 use mathlib.Core.Bool.{Bool, true, false, _&&_}
@@ -19,12 +19,12 @@ use Rattle.blocks.specs.Stacks.{openIn}
 use Rattle.copying.specs.declared.Cursor.{Cursor}
 use Rattle.copying.specs.Cursors.{stopsAt, cursorPast, cursorBehind}
 use Rattle.turns.specs.States.{Context, Here, behind, framesAt, goTo}
-use Rattle.turns.specs.Turns.{skipTurn, endTurn, hideTurn}
-use Rattle.turns.specs.Usages.{takenTurn, tokenTurn}
+use Rattle.turns.specs.Acts.{leaves, skips, hideAct, takenAct, actAt}
+use Rattle.turns.specs.Performing.{perform}
 use Rattle.reading.specs.Reading.{Halts}
 use Rattle.running.specs.declared.stage.Stage.{Stage}
 use Rattle.running.specs.declared.stage.Step.the-variants as step
-use Rattle.running.specs.Standing.{bufs, hereOf, withCursor, Ok, Fixed, At, SteppedBy}
+use Rattle.running.specs.Standing.{bufs, hereOf, withCursor, Ok, Fixed, At, Performed}
 use Rattle.running.proofs.Going.{body-here, token-at-here, token-here, goes-behind}
 
 -- such a token is the end or a grave accent name
@@ -37,25 +37,25 @@ grave-here t q b n = go (is Grave t) refl
         let r : stopsAt t ≡ false = simp (e, ne-eqb (t .kind) End n, eq-eqb (t .bar) 0 b) in
         true-false (stopsAt t) q r
 
--- ---- the turn, by the token
+-- ---- the act, by the token
 
 module _ (h : Here) (clear : h .token .bar ≡ 0) where
-  turn-end : h .token .kind ≡ End → tokenTurn h ≡ endTurn h
-  unfolding tokenTurn
-  turn-end e = rw (clear, e)
+  act-end : h .token .kind ≡ End → actAt h ≡ leaves
+  unfolding actAt
+  act-end e = rw (clear, e)
 
   module _ (g : h .token .kind ≡ Grave) (d : ℕ) (e : d ≡ directiveOf (nameOf (h .body) (h .token))) (n : (leb Ifdef d && leb d Endif) ≡ false) where
-    turn-taken : takenBy (h .state .conds) ≡ true → tokenTurn h ≡ takenTurn d h
-    unfolding tokenTurn
-    turn-taken k = rw (clear, g, ← e, n, k)
+    act-taken : takenBy (h .state .conds) ≡ true → actAt h ≡ takenAct d h
+    unfolding actAt
+    act-taken k = rw (clear, g, ← e, n, k)
 
-    turn-hidden : takenBy (h .state .conds) ≡ false → d ≡ Define → tokenTurn h ≡ hideTurn h (definitionAt (h .body) (h .token .end))
-    unfolding tokenTurn
-    turn-hidden k q = rw (clear, g, ← e, n, k, eq-eqb d Define q)
+    act-hidden : takenBy (h .state .conds) ≡ false → d ≡ Define → actAt h ≡ hideAct (definitionAt (h .body) (h .token .end))
+    unfolding actAt
+    act-hidden k q = rw (clear, g, ← e, n, k, eq-eqb d Define q)
 
-    turn-skipped : takenBy (h .state .conds) ≡ false → (d ≡ Define → ⊥) → tokenTurn h ≡ skipTurn h
-    unfolding tokenTurn
-    turn-skipped k q = rw (clear, g, ← e, n, k, ne-eqb d Define q)
+    act-skipped : takenBy (h .state .conds) ≡ false → (d ≡ Define → ⊥) → actAt h ≡ skips
+    unfolding actAt
+    act-skipped k q = rw (clear, g, ← e, n, k, ne-eqb d Define q)
 
 -- a grave accent name is other text on its line, and no comment
 past-grave : (s : List ℕ) (t : Token) (c : Cursor) → t .kind ≡ Grave → t .at ≡ c .at → cursorPast s false t c ≡ cursorBehind s (t .end) c
@@ -76,36 +76,35 @@ module _ (limit : ℕ) (ms : List Macro) {x : Context} {fs : List ℕ} {es : Lis
   directive-here : d ≡ directiveOf (nameOf (h .body) (h .token))
   directive-here = rw (token-at-here fixed here, body-here fixed here) (halts .directive-is)
 
-  pub special-end : t .kind ≡ End → tokenTurn h ≡ endTurn h
-  special-end e = turn-end h clear-here (ap (λ (t : Token). t .kind) (token-at-here fixed here) ∙ e)
+  pub special-end : t .kind ≡ End → actAt h ≡ leaves
+  special-end e = act-end h clear-here (ap (λ (t : Token). t .kind) (token-at-here fixed here) ∙ e)
 
   module _ (on : t .kind ≡ End → ⊥) where
     kind-here : h .token .kind ≡ Grave
     kind-here = ap (λ (t : Token). t .kind) (token-at-here fixed here) ∙ grave-here t (halts .stops) (halts .clear) on
 
-    pub special-taken : z .blocks .taken ≡ true → tokenTurn h ≡ takenTurn d h
-    special-taken k = turn-taken h clear-here kind-here d directive-here (halts .no-conditional) (sym (ok .blocks-are .taken-is) ∙ k)
+    pub special-taken : z .blocks .taken ≡ true → actAt h ≡ takenAct d h
+    special-taken k = act-taken h clear-here kind-here d directive-here (halts .no-conditional) (sym (ok .blocks-are .taken-is) ∙ k)
 
     module _ (k : z .blocks .taken ≡ false) where
       ignored : takenBy (openIn cd (z .blocks .open)) ≡ false
       ignored = sym (ok .blocks-are .taken-is) ∙ k
 
-      pub special-hidden : d ≡ Define → tokenTurn h ≡ hideTurn h (definitionAt s (t .end))
+      pub special-hidden : d ≡ Define → actAt h ≡ hideAct (definitionAt s (t .end))
       special-hidden q =
-          turn-hidden h clear-here kind-here d directive-here (halts .no-conditional) ignored q
-          ∙ ap (λ (b : List ℕ). hideTurn h (definitionAt b (h .token .end))) (body-here fixed here)
-          ∙ ap (λ (t : Token). hideTurn h (definitionAt s (t .end))) (token-at-here fixed here)
+          act-hidden h clear-here kind-here d directive-here (halts .no-conditional) ignored q
+          ∙ rw (token-at-here fixed here, body-here fixed here)
 
-      skipped-behind : (d ≡ Define → ⊥) → tokenTurn h ≡ goTo h (behind h (t .end)) (openIn cd (z .blocks .open)) ms
+      skipped-behind : (d ≡ Define → ⊥) → perform h (actAt h) ≡ goTo h (behind h (t .end)) (openIn cd (z .blocks .open)) ms
       skipped-behind q =
-          turn-skipped h clear-here kind-here d directive-here (halts .no-conditional) ignored q
+          ap (perform h) (act-skipped h clear-here kind-here d directive-here (halts .no-conditional) ignored q)
           ∙ ap (λ (c : Cursor). goTo h (framesAt h c) (openIn cd (z .blocks .open)) ms)
           (past-grave (h .body) (h .token) (z .cursor) kind-here (token-at inFile (h .body) (z .cursor .at)))
           ∙ ap (λ (t : Token). goTo h (behind h (t .end)) (openIn cd (z .blocks .open)) ms) (token-at-here fixed here)
 
       pub special-skipped : (d ≡ Define → ⊥) → Holds ms bs rs (z .macros) → (y : Stage) → y ≡ withCursor z (cursorBehind s (t .end) (z .cursor))
-          → SteppedBy (step.On y) fs es limit (bufs tx mp bs rs fr cd) (bufs tx mp bs rs fr cd) ms z (tokenTurn h)
+          → Performed (step.On y) x fs es limit (bufs tx mp bs rs fr cd) (bufs tx mp bs rs fr cd) ms z (λ h. actAt h)
       special-skipped q held y e =
           rw e
-          (goes-behind x fs es set limit tx mp bs bs rs rs fr cd ms ms z s t (t .end) (z .macros) (tokenTurn h) fixed here ok
+          (goes-behind x fs es set limit tx mp bs bs rs rs fr cd ms ms z s t (t .end) (z .macros) (perform h (actAt h)) fixed here ok
           (record { past = omega arith; within = token-here here ok .within }) (skipped-behind q) held (ok .few-macros))

@@ -1,5 +1,4 @@
 pub mod Going
-pub mod Barring
 pub mod Writing
 pub mod Usages
 pub mod Taking

@@ -18,13 +18,14 @@ use Rattle.handover.specs.Entries.{allEntries, bodyOf}
 use Rattle.copying.specs.Copying.{Copyable}
 use Rattle.copying.specs.declared.Cursor.{Cursor}
 use Rattle.turns.specs.States.{Context, Frame}
-use Rattle.turns.specs.Usages.{tokenTurn}
+use Rattle.turns.specs.Acts.{actAt}
+use Rattle.turns.specs.Turns.{tokenTurn}
 use Rattle.reading.specs.Reading.{Stays, Halts, ReachedBy, StaysBy}
 use Rattle.reading.specs.declared.Reached.{Reached}
 use Rattle.reading.specs.declared.Reached.the-variants as reached
 use Rattle.running.specs.declared.stage.Stage.{Stage}
 use Rattle.running.specs.declared.stage.Step.{Step}
-use Rattle.running.specs.Standing.{Bufs, bufs, outerFrames, hereOf, endedAt, reachedAt, Ok, Fixed, At, SteppedBy, Going, GoingIn}
+use Rattle.running.specs.Standing.{Bufs, bufs, outerFrames, hereOf, endedAt, reachedAt, Ok, Fixed, At, Performed, Going, GoingIn}
 use Rattle.running.specs.Ending.{AdvancedBy}
 use Rattle.running.proofs.Advancing.{Led, turn-here, stepped, read-led, advance-refused, fixed-on}
 use Rattle.running.proofs.Unfinished.{token-unfinished}
@@ -111,8 +112,7 @@ module _ {store : List ℕ} {table : List (List ℕ)} {B : Bufs} {z : Stage} {s 
     pub advance-on : (set limit : ℕ) (tx mp bs : List ℕ) (rs fr : List (List ℕ)) (v : Step) → length bs ≡ length (B .bytes)
         → ((x : Context) (ms : List Macro) (cd : List (List ℕ)) → Fixed x store table set (bufs text′ map′ (B .bytes) (B .records) (B .frames) cd)
         → At store table s t z₁ → Ok store table (bufs text′ map′ (B .bytes) (B .records) (B .frames) cd) z₁ → Holds ms (B .bytes) (B .records) (z₁ .macros)
-        → SteppedBy v store table limit (bufs text′ map′ (B .bytes) (B .records) (B .frames) cd) (bufs tx mp bs rs fr cd) ms z₁
-        (tokenTurn (hereOf x limit (bufs text′ map′ (B .bytes) (B .records) (B .frames) cd) ms z₁)))
+        → Performed v x store table limit (bufs text′ map′ (B .bytes) (B .records) (B .frames) cd) (bufs tx mp bs rs fr cd) ms z₁ (λ h. actAt h))
         → (x : Context) (ms : List Macro) → Fixed x store table set B → Holds ms (B .bytes) (B .records) (z .macros)
         → AdvancedBy v x limit store table B (bufs tx mp bs rs fr conds′) ms z
     advance-on set limit tx mp bs rs fr v b w x ms f i =

@@ -1,9 +1,9 @@
--- Which turn a token takes, and what the functions of its directive need.
+-- Which act a token asks for, and what the functions of its directive need.
 -- Assumes nothing.
 use Prim.Native.Nat.{ℕ, _≤_}
 use mathlib.Core.Bool.{true, false, cond, _&&_}
 use mathlib.Core.List.{List, []}
-use mathlib.Core.Path.{_≡_, sym, ap, subst, _∙_}
+use mathlib.Core.Path.{_≡_, sym, ap, subst⁻¹, _∙_}
 use native.Mathlib.Omega.{arith}
 use lib.Dec.{eqb, leb}
 use borrow.Author.Tests.{eq-eqb, ne-eqb}
@@ -15,17 +15,18 @@ use Rattle.macros.specs.Defining.{Ready}
 use Rattle.handover.specs.Entries.{nameOf as entryNamed}
 use Rattle.copying.specs.Copying.{Reads}
 use Rattle.places.specs.Places.{quoted, decimal}
-use Rattle.turns.specs.States.{Context, Turn, stop, nothing, Here, refuse, behind, goTo}
-use Rattle.turns.specs.Turns.{defineTurn, undefTurn, includeTurn, keepTurn, fileWord, lineWord, wordTurn}
-use Rattle.turns.specs.Usages.{usageTurn, takenTurn}
+use Rattle.turns.specs.States.{Context, Here}
+use Rattle.turns.specs.Acts.{Act, refuses, undefines, spells, expands, refusesHere, defineAct, undefAct, includeAct, keepAct, fileWord, lineWord, takenAct}
+use Rattle.turns.specs.Performing.{perform}
 use Rattle.running.specs.declared.stage.Stage.{Stage}
 use Rattle.running.specs.declared.stage.Step.{Step}
 use Rattle.running.specs.Standing.{Bufs, hereOf, Fixed, At, SteppedBy, Works, GoingIn, PlaceLent, UsageLent}
 use Rattle.running.proofs.Going.{reads-here, token-here, token-at-here}
 
-pub as-turn : (r : Step) (fs : List ℕ) (es : List (List ℕ)) (limit : ℕ) (B B′ : Bufs) (ms : List Macro) (z : Stage) (u v : Turn) → u ≡ v
-    → SteppedBy r fs es limit B B′ ms z v → SteppedBy r fs es limit B B′ ms z u
-as-turn r fs es limit B B′ ms z u v e h = subst (λ (u : Turn). SteppedBy r fs es limit B B′ ms z u) (sym e) h
+-- a step that carried out the act v, where u is the same
+pub as-act : (r : Step) (fs : List ℕ) (es : List (List ℕ)) (limit : ℕ) (B B′ : Bufs) (ms : List Macro) (z : Stage) (h : Here) {u v : Act} → u ≡ v
+    → SteppedBy r fs es limit B B′ ms z (perform h v) → SteppedBy r fs es limit B B′ ms z (perform h u)
+as-act r fs es limit B B′ ms z h e k = subst⁻¹ (λ (a : Act). SteppedBy r fs es limit B B′ ms z (perform h a)) e k
 
 -- ---- what the functions need
 
@@ -85,61 +86,45 @@ module _ {fs : List ℕ} {es : List (List ℕ)} {tx mp bs : List ℕ} {rs fr : L
           form-long = omega (arith, g .going .bytes-small, w .form-lent);
         }
 
--- ---- which turn
+-- ---- which act
 
 module _ (d : ℕ) (h : Here) where
   -- `__FILE__`, `__LINE__` or a refused directive
-  abbrev pub placeTurn : Turn
-  placeTurn = cond (eqb d FileWord) (wordTurn h (fileWord h)) (cond (eqb d LineWord) (wordTurn h (lineWord h)) (refuse h 7))
+  abbrev pub placeAct : Act
+  placeAct = cond (eqb d FileWord) (spells (fileWord h)) (cond (eqb d LineWord) (spells (lineWord h)) (refusesHere h 7))
 
-  place-file : d ≡ FileWord → placeTurn ≡ wordTurn h (fileWord h)
-  place-file e = simp (eq-eqb d FileWord e)
-
-  place-line : (d ≡ FileWord → ⊥) → d ≡ LineWord → placeTurn ≡ wordTurn h (lineWord h)
-  place-line n e = simp (ne-eqb d FileWord n, eq-eqb d LineWord e)
-
-  place-none : (d ≡ FileWord → ⊥) → (d ≡ LineWord → ⊥) → placeTurn ≡ refuse h 7
-  place-none n m = simp (ne-eqb d FileWord n, ne-eqb d LineWord m)
-
-  pub taken-usage : d ≡ 0 → takenTurn d h ≡ usageTurn h
-  unfolding takenTurn
+  pub taken-usage : d ≡ 0 → takenAct d h ≡ expands
+  unfolding takenAct
   taken-usage e = simp (eq-eqb d 0 e)
 
   module _ (n : d ≡ 0 → ⊥) where
-    pub taken-define : {s : List ℕ} {t : Token} → h .body ≡ s → h .token ≡ t → d ≡ Define → takenTurn d h ≡ defineTurn h (definitionAt s (t .end))
-    unfolding takenTurn
-    taken-define {s = s} b k e =
-        let q : takenTurn d h ≡ defineTurn h (definitionAt (h .body) (h .token .end)) = simp (ne-eqb d 0 n, eq-eqb d Define e) in
-        q ∙ ap (λ (b : List ℕ). defineTurn h (definitionAt b (h .token .end))) b ∙ ap (λ (t : Token). defineTurn h (definitionAt s (t .end))) k
+    pub taken-define : {s : List ℕ} {t : Token} → h .body ≡ s → h .token ≡ t → d ≡ Define → takenAct d h ≡ defineAct (h .token .at) (definitionAt s (t .end))
+    unfolding takenAct
+    taken-define b k e = simp (ne-eqb d 0 n, eq-eqb d Define e, b, k)
 
     module _ (n2 : d ≡ Define → ⊥) where
-      pub taken-undef : d ≡ Undef → takenTurn d h ≡ undefTurn h
-      unfolding takenTurn
+      pub taken-undef : d ≡ Undef → takenAct d h ≡ undefAct h
+      unfolding takenAct
       taken-undef e = simp (ne-eqb d 0 n, ne-eqb d Define n2, eq-eqb d Undef e)
 
       module _ (n3 : d ≡ Undef → ⊥) where
-        pub taken-all : {t : Token} → h .token ≡ t → d ≡ UndefineAll → takenTurn d h ≡ goTo h (behind h (t .end)) (h .state .conds) []
-        unfolding takenTurn
-        taken-all k e =
-            let q : takenTurn d h ≡ goTo h (behind h (h .token .end)) (h .state .conds) [] = simp (ne-eqb d 0 n, ne-eqb d Define n2, ne-eqb d Undef n3, eq-eqb d UndefineAll e) in
-            q ∙ ap (λ (t : Token). goTo h (behind h (t .end)) (h .state .conds) []) k
+        pub taken-all : {t : Token} → h .token ≡ t → d ≡ UndefineAll → takenAct d h ≡ undefines [] (t .end)
+        unfolding takenAct
+        taken-all k e = simp (ne-eqb d 0 n, ne-eqb d Define n2, ne-eqb d Undef n3, eq-eqb d UndefineAll e, k)
 
         module _ (n4 : d ≡ UndefineAll → ⊥) where
-          pub taken-include : {s : List ℕ} {t : Token} → h .body ≡ s → h .token ≡ t → d ≡ Include → takenTurn d h ≡ includeTurn h (includeAt s (t .end))
-          unfolding takenTurn
-          taken-include {s = s} b k e =
-              let q : takenTurn d h ≡ includeTurn h (includeAt (h .body) (h .token .end)) =
-              simp (ne-eqb d 0 n, ne-eqb d Define n2, ne-eqb d Undef n3, ne-eqb d UndefineAll n4, eq-eqb d Include e) in
-              q ∙ ap (λ (b : List ℕ). includeTurn h (includeAt b (h .token .end))) b ∙ ap (λ (t : Token). includeTurn h (includeAt s (t .end))) k
+          pub taken-include : {s : List ℕ} {t : Token} → h .body ≡ s → h .token ≡ t → d ≡ Include → takenAct d h ≡ includeAct h (includeAt s (t .end))
+          unfolding takenAct
+          taken-include b k e = simp (ne-eqb d 0 n, ne-eqb d Define n2, ne-eqb d Undef n3, ne-eqb d UndefineAll n4, eq-eqb d Include e, b, k)
 
           module _ (n5 : d ≡ Include → ⊥) where
-            pub taken-keep : (leb Resetall d && leb d EndKeywords) ≡ true → takenTurn d h ≡ keepTurn d h
-            unfolding takenTurn
+            pub taken-keep : (leb Resetall d && leb d EndKeywords) ≡ true → takenAct d h ≡ keepAct d h
+            unfolding takenAct
             taken-keep e = simp (ne-eqb d 0 n, ne-eqb d Define n2, ne-eqb d Undef n3, ne-eqb d UndefineAll n4, ne-eqb d Include n5, e)
 
             module _ (n6 : (leb Resetall d && leb d EndKeywords) ≡ false) where
-              pub taken-place : takenTurn d h ≡ placeTurn
-              unfolding takenTurn
+              pub taken-place : takenAct d h ≡ placeAct
+              unfolding takenAct
               taken-place = simp (ne-eqb d 0 n, ne-eqb d Define n2, ne-eqb d Undef n3, ne-eqb d UndefineAll n4, ne-eqb d Include n5, n6)
 
 -- ---- what the code writes or refuses there
@@ -149,15 +134,15 @@ module _ (limit : ℕ) (ms : List Macro) (z : Stage) {x : Context} {fs : List �
   h = hereOf x limit B ms z
 
   -- `__FILE__`, by the entry's name n
-  pub file-written : (d : ℕ) (n w : List ℕ) → d ≡ FileWord → n ≡ entryNamed fs es (z .file) → w ≡ quoted n → placeTurn d h ≡ wordTurn h w
+  pub file-written : (d : ℕ) (n w : List ℕ) → d ≡ FileWord → n ≡ entryNamed fs es (z .file) → w ≡ quoted n → placeAct d h ≡ spells w
   file-written d n w k e q =
       let v : fileWord h ≡ w = rw (f .store-is, f .table-is) (sym (q ∙ ap quoted e)) in
-      place-file d h k ∙ ap (wordTurn h) v
+      simp (eq-eqb d FileWord k, v)
 
   -- `__LINE__`
-  pub line-written : (d : ℕ) (w : List ℕ) → (d ≡ FileWord → ⊥) → d ≡ LineWord → w ≡ decimal 6 (z .cursor .line) → placeTurn d h ≡ wordTurn h w
-  line-written d w n k q = place-line d h n k ∙ ap (wordTurn h) (sym q)
+  pub line-written : (d : ℕ) (w : List ℕ) → (d ≡ FileWord → ⊥) → d ≡ LineWord → w ≡ decimal 6 (z .cursor .line) → placeAct d h ≡ spells w
+  line-written d w n k q = simp (ne-eqb d FileWord n, eq-eqb d LineWord k, q)
 
   -- at the token
-  pub refused-at : {s : List ℕ} {t : Token} (d : ℕ) → (d ≡ FileWord → ⊥) → (d ≡ LineWord → ⊥) → At fs es s t z → placeTurn d h ≡ stop 7 (z .file) (t .at) nothing
-  refused-at d n m a = place-none d h n m ∙ ap (λ (t : Token). stop 7 (z .file) (t .at) nothing) (token-at-here f a)
+  pub refused-at : {s : List ℕ} {t : Token} (d : ℕ) → (d ≡ FileWord → ⊥) → (d ≡ LineWord → ⊥) → At fs es s t z → placeAct d h ≡ refuses 7 (t .at)
+  refused-at d n m a = simp (ne-eqb d FileWord n, ne-eqb d LineWord m, token-at-here f a)

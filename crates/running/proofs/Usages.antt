@@ -31,12 +31,12 @@ use Rattle.expand.specs.Standing.{outer, answerOf, Ends, Expands}
 use Rattle.turns.specs.States.{Context, Turn, more, stop, Here, behind, roomAfter}
 use Rattle.turns.specs.Usages.{outerOf, madeBy, afterUsage, usageTurn}
 use Rattle.turns.proofs.Rooms.{Fits, expand-fits}
-use Rattle.turns.proofs.Inside.{usage-inside}
+use Rattle.turns.proofs.Asking.{usage-ends}
 use Rattle.running.specs.declared.stage.Stage.{Stage}
 use Rattle.running.specs.declared.stage.Step.{Step}
 use Rattle.running.specs.declared.stage.Step.the-variants as step
 use Rattle.running.specs.Standing.{bufs, hereOf, endedAt, lastStep, withCursor, expandedTo, Ok, Fixed, At, Moves, Stops, SteppedBy}
-use Rattle.running.proofs.Going.{open-first, token-here, reads-there, body-here, token-at-here}
+use Rattle.running.proofs.Going.{open-first, reads-there, body-here, token-at-here, inside-there}
 
 -- ---- the end of a run
 
@@ -197,13 +197,7 @@ module _ (limit : ℕ) (ms : List Macro) {x : Context} {fs : List ℕ} {es : Lis
     number-is = ap (λ (k : Expanded). k .number) (ends .answer)
 
     inside : e .stop ≡ 0 → Inside s (t .end) n
-    inside q =
-        let l : t .end ≤ length s = token-here here ok .within in
-        let l′ : t .end ≤ length (h .body) = subst⁻¹ (λ (v : List ℕ). t .end ≤ length v) (body-here fixed here) l in
-        let l″ : h .token .end ≤ length (h .body) = subst⁻¹ (λ (y : Token). y .end ≤ length (h .body)) (token-at-here fixed here) l′ in
-        subst (λ (v : List ℕ). Inside v (t .end) n) (body-here fixed here)
-        (subst (λ (y : Token). Inside (h .body) (y .end) n) (token-at-here fixed here)
-        (usage-inside (h .body) (h .token .end) l″ (limit - z .count) (outerOf h) ms (h .state .room) (nameOf (h .body) (h .token)) (eq-eqb (e .stop) 0 q)))
+    inside q = inside-there fixed here limit ms n ok (λ l. usage-ends h l (eq-eqb (e .stop) 0 q))
 
     pub usage-on : {y v : Stage} → y ≡ expandedTo z r → r .number ≡ 0 → v ≡ withCursor y (cursorBehind s (r .next) (y .cursor))
         → StepsBy (step.On v) (usageTurn h)

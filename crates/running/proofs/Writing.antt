@@ -2,14 +2,12 @@
 -- Assumes nothing.
 use Prim.Native.Nat.{ℕ, _<_, _≤_}
 use mathlib.Core.Bool.{Bool, true, false}
-use mathlib.Core.List.{List, [], _∷_}
+use mathlib.Core.List.{List, []}
 use mathlib.Core.Logic.{⊎-elim}
 use mathlib.Core.Path.{_≡_, refl, sym, ap, _∙_, subst, subst⁻¹}
 use native.Mathlib.Nat.{max-zero}
 use native.Mathlib.Omega.{arith}
 use lib.ListN.{length}
-use Rattle.text.specs.Bytes.{part}
-use Rattle.lex.specs.Tokens.{inFile}
 use Rattle.lex.specs.declared.Token.{Token}
 use Rattle.lex.proofs.Progress.{Inside}
 use Rattle.definition.specs.Definitions.{Macro, Definition, barred, bad, good, definitionAt}
@@ -23,9 +21,7 @@ use Rattle.macros.specs.declared.ReadIn.{ReadIn}
 use Rattle.macros.specs.declared.ReadIn.the-variants as read
 use Rattle.macros.proofs.Kept.{fits-few}
 use Rattle.settings.specs.declared.Settings.{Settings}
-use Rattle.settings.specs.Settings.{setBy}
-use Rattle.writing.specs.Written.{Written, placed, Put, putIn}
-use Rattle.writing.specs.Written as written
+use Rattle.writing.specs.Written.{Written, placed}
 use Rattle.writing.specs.Buffers.{roomOf, Puts, WroteBy}
 use Rattle.writing.specs.declared.Spot.{Spot}
 use Rattle.writing.specs.declared.Wrote.{Wrote}
@@ -35,21 +31,19 @@ use Rattle.places.specs.Places.{placeOf}
 use Rattle.copying.specs.Cursors.{cursorBehind}
 use Rattle.copying.specs.Copying.{Reads}
 use Rattle.copying.specs.declared.Cursor.{Cursor}
-use Rattle.directive.specs.declared.Value.{Value}
-use Rattle.directive.specs.declared.Form.{Form}
-use Rattle.directive.specs.declared.Form.the-variants as form
-use Rattle.turns.specs.States.{Context, Frame, State, Made, Turn, more, stop, finished, Here, writes, refuseAt, refuse, behind, goTo, onPut, write, placeHere}
-use Rattle.turns.specs.Turns.{onForm, formHere, defineTurn, hideTurn, keepTurn, wordTurn}
-use Rattle.turns.proofs.Inside.{token-inside, form-inside, bad-inside, good-inside}
+use Rattle.turns.specs.States.{Context, Turn, more, Here, writes, refuseAt, refuse, behind, goTo, placeHere}
+use Rattle.turns.specs.Acts.{Act, spells, defineAct, hideAct, keepAct}
+use Rattle.turns.specs.Performing.{perform}
+use Rattle.turns.proofs.Definitions.{bad-inside, good-inside, definition-bars}
 use Rattle.keeping.specs.Keeping.{KeepHere, Keeps, KeptBy}
 use Rattle.keeping.specs.declared.Kept.{Kept}
 use Rattle.keeping.specs.declared.Kept.the-variants as kept
+use Rattle.keeping.proofs.Keeping.{put-number}
 use Rattle.running.specs.declared.stage.Stage.{Stage}
 use Rattle.running.specs.declared.stage.Step.{Step}
 use Rattle.running.specs.declared.stage.Step.the-variants as step
-use Rattle.running.specs.Standing.{bufs, hereOf, endedAt, withCursor, withSpot, Ok, Fixed, At, Moves, SteppedBy}
-use Rattle.running.proofs.Going.{open-first, stops, reads-here, token-here, reads-there, body-here, token-at-here}
-use Rattle.running.proofs.Barring.{definition-number, put-number, keep-number}
+use Rattle.running.specs.Standing.{bufs, hereOf, endedAt, withCursor, withSpot, Ok, Fixed, At, Moves, SteppedBy, Performed}
+use Rattle.running.proofs.Going.{open-first, stops, token-here, reads-there, body-here, token-at-here, inside-there}
 
 -- a stage with other macros, or another directive state
 abbrev pub withMacros : Stage → ℕ → Stage
@@ -98,37 +92,6 @@ movedTo z c n x y =
 -- the cursor of a stage is one of the file
 pub spot-reads : (s : List ℕ) (z y : Stage) (p : Spot) → Reads s 0 (z .cursor) → y ≡ withSpot z p → Reads s 0 (y .cursor)
 spot-reads s z y p r e = subst⁻¹ (λ (k : Stage). Reads s 0 (k .cursor)) e r
-
--- ---- where a directive that is kept ends
-
-abbrev headAt : List Frame → ℕ
-headAt [] = 0
-headAt (f ∷ fs) = f .cursor .at
-
-abbrev endOf : Turn → ℕ
-endOf (more v m) = headAt (v .frames)
-endOf (stop n f p m) = 0
-endOf finished = 0
-
-module _ (h : Here) (e : ℕ) where
-  put-ends : (ws : List Written) (y : ℕ) (c : Settings) (p : Put) (v : State) (m : Made) → onPut h ws (behind h y) c p ≡ more v m → v .frames ≡ behind h e → y ≡ e
-  unfolding cursorBehind
-  put-ends ws y c (written.full n) v m q f = let z : _≡_ {A = ℕ} 0 1 = cc in absurd (omega arith)
-  put-ends ws y c (written.fitted r) v m q f = ap endOf q ∙ ap headAt f
-
-abbrev keptBy : Here → Value → ℕ → Turn
-keptBy h a y = write h (placed 1 (placeHere h) (part (h .body) (h .token .at) y)) (behind h y) (setBy a (h .context .set) (h .state .settings))
-
-keep-ends : (h : Here) (d e : ℕ) (v : State) (m : Made) → keepTurn d h ≡ more v m → v .frames ≡ behind h e → h .token .end ≤ length (h .body)
-    → Inside (h .body) (h .token .end) e
-keep-ends h d e v m q f l = go (formHere d h) refl q
-  where
-    go : (k : Form) → formHere d h ≡ k → onForm h k (keptBy h) ≡ more v m → Inside (h .body) (h .token .end) e
-    go (form.Formed a y) i j =
-        subst (λ (n : ℕ). Inside (h .body) (h .token .end) n) (put-ends h e _ y _ (putIn (h .state .room) _) v m j f)
-        (form-inside (h .body) (h .token .end) l d a y i)
-    go form.Unformed i j = let z : _≡_ {A = ℕ} 0 1 = cc in absurd (omega arith)
-    go (form.Barred n p) i j = let z : _≡_ {A = ℕ} 0 1 = cc in absurd (omega arith)
 
 module _ (limit : ℕ) (ms : List Macro) {x : Context} {fs : List ℕ} {es : List (List ℕ)} {set : ℕ} {tx mp bs : List ℕ} {rs fr cd : List (List ℕ)}
     {z : Stage} {s : List ℕ} {t : Token} (fixed : Fixed x fs es set (bufs tx mp bs rs fr cd)) (here : At fs es s t z)
@@ -195,7 +158,7 @@ module _ (limit : ℕ) (ms : List Macro) {x : Context} {fs : List ℕ} {es : Lis
       → SteppedBy r fs es limit (bufs tx mp bs rs fr cd) (bufs tx′ mp′ bs′ rs′ fr cd) ms z u
   stops-at tx′ mp′ bs′ rs′ n p u r e l q a b g =
       subst⁻¹ (λ (k : Step). SteppedBy k fs es limit (bufs tx mp bs rs fr cd) (bufs tx′ mp′ bs′ rs′ fr cd) ms z u) e
-      (stops (bufs tx mp bs rs fr cd) (bufs tx′ mp′ bs′ rs′ fr cd) ms z n p u (λ i. omega arith) q a b g)
+      (stops (bufs tx mp bs rs fr cd) (bufs tx′ mp′ bs′ rs′ fr cd) ms z n p u l q a b g)
 
   -- 7, 11, 12, 19, 20: at the token
   refused-here : (n : ℕ) → refuse h n ≡ refuseAt h n (t .at)
@@ -208,7 +171,10 @@ module _ (limit : ℕ) (ms : List Macro) {x : Context} {fs : List ℕ} {es : Lis
     d = definitionAt s (t .end)
 
     abbrev Defined : Step → Type 0
-    Defined r = SteppedBy r fs es limit (bufs tx mp bs rs fr cd) (bufs tx mp bs′ rs′ fr cd) ms z (defineTurn h d)
+    Defined r = Performed r x fs es limit (bufs tx mp bs rs fr cd) (bufs tx mp bs′ rs′ fr cd) ms z (λ h. defineAct (h .token .at) d)
+
+    abbrev defined : Turn
+    defined = perform h (defineAct (h .token .at) d)
 
     rooms : (m : Macro) → fits (x .records) (x .bytes) (define m ms) ≡ fits (length rs) (length bs) (define m ms)
     rooms m = rw (fixed .records-are, fixed .bytes-are)
@@ -237,7 +203,7 @@ module _ (limit : ℕ) (ms : List Macro) {x : Context} {fs : List ℕ} {es : Lis
                 let o : e ≡ k = cc in
                 let g′ : Holds (define m ms) bs′ rs′ (length (define m ms)) = rw f at g in
                 let i′ : d ≡ good m e = i ∙ ap (good m) (sym o) in
-                goes-at bs′ rs′ (define m ms) e n (defineTurn h d) (rw (i′, rooms m, f)) (subst⁻¹ (λ (l : ℕ). Holds (define m ms) bs′ rs′ l) c g′)
+                goes-at bs′ rs′ (define m ms) e n defined (rw (i′, rooms m, f)) (subst⁻¹ (λ (l : ℕ). Holds (define m ms) bs′ rs′ l) c g′)
                 (omega (arith, fits-few (length rs) (length bs) (define m ms) f)) (good-inside s (t .end) (token-here here ok .within) m e i′)
             by false f =
                 let j′ : read.Done n e ≡ read.NoRoom = rw f at j in
@@ -252,7 +218,7 @@ module _ (limit : ℕ) (ms : List Macro) {x : Context} {fs : List ℕ} {es : Lis
             let c : n ≡ k = cc in
             let o : p ≡ l = cc in
             let i′ : d ≡ barred n p = rw (c, o) i in
-            stops-at tx mp bs′ rs′ n p (defineTurn h d) r w (definition-number s (t .end) n p i′) (rw i′) refl refl (same-macros (rw i))
+            stops-at tx mp bs′ rs′ n p defined r w (omega (arith, definition-bars s (t .end) n p i′ .low)) (rw i′) refl refl (same-macros (rw i))
         go (bad k) i j = let c : _≡_ {A = ℕ} 0 1 = cc in absurd (omega arith)
         go (good m k) i j = by (fits (length rs) (length bs) (define m ms)) refl
           where
@@ -272,7 +238,7 @@ module _ (limit : ℕ) (ms : List Macro) {x : Context} {fs : List ℕ} {es : Lis
         go : (v : Definition) → d ≡ v → read.Bad ≡ answerTo (length rs) (length bs) ms v → Defined r
         go (barred k l) i j = let c : _≡_ {A = ℕ} 0 1 = cc in absurd (omega arith)
         go (bad k) i j =
-            stops-at tx mp bs′ rs′ 11 (t .at) (defineTurn h d) r w (omega arith) (rw i (refused-here 11)) refl refl (same-macros (rw i))
+            stops-at tx mp bs′ rs′ 11 (t .at) defined r w (omega arith) (rw i (refused-here 11)) refl refl (same-macros (rw i))
         go (good m k) i j = by (fits (length rs) (length bs) (define m ms)) refl
           where
             by : (b : Bool) → fits (length rs) (length bs) (define m ms) ≡ b → Defined r
@@ -299,14 +265,17 @@ module _ (limit : ℕ) (ms : List Macro) {x : Context} {fs : List ℕ} {es : Lis
                 let c : _≡_ {A = ℕ} 0 1 = cc in
                 absurd (omega arith)
             by false f =
-                stops-at tx mp bs′ rs′ 12 (t .at) (defineTurn h d) r w (omega arith) (rw (i, rooms m, f) (refused-here 12)) refl refl (same-macros (rw (i, f)))
+                stops-at tx mp bs′ rs′ 12 (t .at) defined r w (omega arith) (rw (i, rooms m, f) (refused-here 12)) refl refl (same-macros (rw (i, f)))
 
   -- ---- a definition in ignored text
 
   module _ (held : Holds ms bs rs (z .macros)) {stack : List ℕ} {j : Judged} (settled : Settled s stack judged.Short (judgedOf (definitionAt s (t .end))) j)
       (long : 16384 ≤ length stack) where
     abbrev Hidden : Step → Type 0
-    Hidden r = SteppedBy r fs es limit (bufs tx mp bs rs fr cd) (bufs tx mp bs rs fr cd) ms z (hideTurn h (definitionAt s (t .end)))
+    Hidden r = Performed r x fs es limit (bufs tx mp bs rs fr cd) (bufs tx mp bs rs fr cd) ms z (λ h. hideAct (definitionAt s (t .end)))
+
+    abbrev hidden : Turn
+    hidden = perform h (hideAct (definitionAt s (t .end)))
 
     right : j ≡ judgedOf (definitionAt s (t .end))
     right = go settled
@@ -326,14 +295,14 @@ module _ (limit : ℕ) (ms : List Macro) {x : Context} {fs : List ℕ} {es : Lis
             let c : n ≡ k = cc in
             let o : p ≡ l = cc in
             let i′ : definitionAt s (t .end) ≡ barred n p = rw (c, o) i in
-            stops-at tx mp bs rs n p (hideTurn h (definitionAt s (t .end))) r w (definition-number s (t .end) n p i′) (rw i′) refl refl held
+            stops-at tx mp bs rs n p hidden r w (omega (arith, definition-bars s (t .end) n p i′ .low)) (rw i′) refl refl held
         go (bad k) i e = let c : _≡_ {A = ℕ} 0 1 = cc in absurd (omega arith)
         go (good m k) i e = let c : _≡_ {A = ℕ} 0 1 = cc in absurd (omega arith)
 
     hidden-to : {e : ℕ} {y : Stage} → y ≡ withCursor z (cursorBehind s e (z .cursor)) → Inside s (t .end) e
-        → hideTurn h (definitionAt s (t .end)) ≡ goTo h (behind h e) (h .state .conds) ms → Hidden (step.On y)
+        → hidden ≡ goTo h (behind h e) (h .state .conds) ms → Hidden (step.On y)
     hidden-to {e} {y} w i q =
-        subst⁻¹ (λ (k : Stage). Hidden (step.On k)) w (goes-at bs rs ms e (z .macros) (hideTurn h (definitionAt s (t .end))) q held (ok .few-macros) i)
+        subst⁻¹ (λ (k : Stage). Hidden (step.On k)) w (goes-at bs rs ms e (z .macros) hidden q held (ok .few-macros) i)
 
     pub hide-bad : {e : ℕ} {y : Stage} → j ≡ judged.Bad e → y ≡ withCursor z (cursorBehind s e (z .cursor)) → Hidden (step.On y)
     hide-bad {e} {y} q w = go (definitionAt s (t .end)) refl (sym q ∙ right)
@@ -368,11 +337,11 @@ module _ (limit : ℕ) (ms : List Macro) {x : Context} {fs : List ℕ} {es : Lis
   -- ---- what is written
 
   module _ (held : Holds ms bs rs (z .macros)) (tx′ mp′ : List ℕ) where
-    abbrev WrittenBy : Step → Turn → Type 0
-    WrittenBy r u = SteppedBy r fs es limit (bufs tx mp bs rs fr cd) (bufs tx′ mp′ bs rs fr cd) ms z u
+    abbrev WrittenBy : Step → Act → Type 0
+    WrittenBy r a = Performed r x fs es limit (bufs tx mp bs rs fr cd) (bufs tx′ mp′ bs rs fr cd) ms z (λ h. a)
 
-    written-to : (e : ℕ) (c : Settings) (y : Spot) (ws : List Written) (u : Turn)
-        → u ≡ more
+    written-to : (e : ℕ) (c : Settings) (y : Spot) (ws : List Written) (a : Act)
+        → perform h a ≡ more
         (record {
           frames = behind h e;
           conds = h .state .conds;
@@ -383,9 +352,9 @@ module _ (limit : ℕ) (ms : List Macro) {x : Context} {fs : List ℕ} {es : Lis
         })
         (writes ws)
         → Puts ws tx tx′ mp mp′ (z .spot) y → y .written ≤ length tx → y .lines ≤ length mp → Inside s (t .end) e
-        → WrittenBy (step.On (movedTo z (cursorBehind s e (z .cursor)) (z .macros) c y)) u
-    written-to e c y ws u q p k l i = (
-      moves-at tx′ mp′ bs rs ms e (z .macros) c y ws u q held p,
+        → WrittenBy (step.On (movedTo z (cursorBehind s e (z .cursor)) (z .macros) c y)) a
+    written-to e c y ws a q p k l i = (
+      moves-at tx′ mp′ bs rs ms e (z .macros) c y ws (perform h a) q held p,
       ok-at tx′ mp′ bs rs e (z .macros) c y i (ok .few-macros) (omega (arith, puts-text p)) (omega (arith, puts-map p)),
     )
 
@@ -397,19 +366,19 @@ module _ (limit : ℕ) (ms : List Macro) {x : Context} {fs : List ℕ} {es : Lis
             let c : WroteBy q (placed 0 place w) tx tx′ mp mp′ (z .spot) = subst (λ (k : Wrote). WroteBy k (placed 0 place w) tx tx′ mp mp′ (z .spot)) e b in
             subst (λ (k : ℕ). WroteBy q (placed 0 k w) tx tx′ mp mp′ (z .spot)) place-is c
 
-        pub word-full : {k : ℕ} {v : Step} → r ≡ wrote.Full k → v ≡ endedAt z k (z .file) (t .at) → WrittenBy v (wordTurn h w)
+        pub word-full : {k : ℕ} {v : Step} → r ≡ wrote.Full k → v ≡ endedAt z k (z .file) (t .at) → WrittenBy v (spells w)
         word-full {k} {v} q e =
             let c = word-by (wrote.Full k) q in
-            stops-at tx′ mp′ bs rs k (t .at) (wordTurn h w) v e (put-number (h .state .room) (placed 0 (placeHere h) w) k (c .0)) (rw (c .0) (refused-here k))
+            stops-at tx′ mp′ bs rs k (t .at) (perform h (spells w)) v e (put-number (h .state .room) (placed 0 (placeHere h) w) k (c .0)) (rw (c .0) (refused-here k))
             (c .1) (c .2) held
 
         pub word-upto : {y : Spot} {z₁ v : Stage} → r ≡ wrote.Upto y → z₁ ≡ withSpot z y → v ≡ withCursor z₁ (cursorBehind s (t .end) (z₁ .cursor))
-            → WrittenBy (step.On v) (wordTurn h w)
+            → WrittenBy (step.On v) (spells w)
         word-upto {y} {z₁} {v} q f e =
             let c = word-by (wrote.Upto y) q in
             let e′ : v ≡ withCursor (withSpot z y) (cursorBehind s (t .end) (z .cursor)) = e ∙ ap (λ (k : Stage). withCursor k (cursorBehind s (t .end) (k .cursor))) f in
-            subst⁻¹ (λ (k : Stage). WrittenBy (step.On k) (wordTurn h w)) e′
-            (written-to (t .end) (z .settings) y (placed 0 (placeHere h) w) (wordTurn h w) (rw (c .1, token-at-here fixed here)) (c .0) (c .2) (c .3) word-in)
+            subst⁻¹ (λ (k : Stage). WrittenBy (step.On k) (spells w)) e′
+            (written-to (t .end) (z .settings) y (placed 0 (placeHere h) w) (spells w) (rw (c .1, token-at-here fixed here)) (c .0) (c .2) (c .3) word-in)
 
       kept-here : KeepHere h s t set place (z .settings) tx mp (z .spot)
       kept-here = record {
@@ -422,21 +391,19 @@ module _ (limit : ℕ) (ms : List Macro) {x : Context} {fs : List ℕ} {es : Lis
       }
 
       -- a directive that is kept
-      module _ (n : ℕ) {r : Kept} (b : (g : Here) → KeepHere g s t set place (z .settings) tx mp (z .spot) → KeptBy r g (keepTurn n g) tx tx′ mp mp′ (z .spot)) where
-        kept-by : (q : Kept) → r ≡ q → KeptBy q h (keepTurn n h) tx tx′ mp mp′ (z .spot)
-        kept-by q e = subst (λ (k : Kept). KeptBy k h (keepTurn n h) tx tx′ mp mp′ (z .spot)) e (b h kept-here)
+      module _ (n : ℕ) {r : Kept} (b : (g : Here) → KeepHere g s t set place (z .settings) tx mp (z .spot) → KeptBy r g (keepAct n g) tx tx′ mp mp′ (z .spot)) where
+        kept-by : (q : Kept) → r ≡ q → KeptBy q h (keepAct n h) tx tx′ mp mp′ (z .spot)
+        kept-by q e = subst (λ (k : Kept). KeptBy k h (keepAct n h) tx tx′ mp mp′ (z .spot)) e (b h kept-here)
 
-        pub keep-refused : {k p : ℕ} {v : Step} → r ≡ kept.Refused k p → v ≡ endedAt z k (z .file) p → WrittenBy v (keepTurn n h)
+        pub keep-refused : {k p : ℕ} {v : Step} → r ≡ kept.Refused k p → v ≡ endedAt z k (z .file) p → WrittenBy v (keepAct n h)
         keep-refused {k} {p} {v} q e =
             let c = kept-by (kept.Refused k p) q in
-            stops-at tx′ mp′ bs rs k p (keepTurn n h) v e (keep-number h n k p (c .0)) (c .0) (c .1) (c .2) held
+            stops-at tx′ mp′ bs rs k p (perform h (keepAct n h)) v e (c .1) (c .0) (c .2) (c .3) held
 
         pub keep-to : {c : Settings} {y : Spot} {e : ℕ} {z₁ v : Stage} → r ≡ kept.To c y e → z₁ ≡ withSpot z y
-            → v ≡ withCursor z₁ (cursorBehind s e (z₁ .cursor)) → WrittenBy (step.On (withSettings v c)) (keepTurn n h)
+            → v ≡ withCursor z₁ (cursorBehind s e (z₁ .cursor)) → WrittenBy (step.On (withSettings v c)) (keepAct n h)
         keep-to {c} {y} {e} {z₁} {v} q f g =
-            let k : Keeps h (keepTurn n h) tx tx′ mp mp′ c (z .spot) y e = kept-by (kept.To c y e) q in
-            let i : Inside (h .body) (h .token .end) e = keep-ends h n e _ _ (k .turn-is) refl (token-inside inFile (h .body) (z .cursor .at) (rw (body-here fixed here) (reads-here here ok .inside)) .within) in
-            let i′ : Inside s (t .end) e = rw (token-at-here fixed here, body-here fixed here) at i in
+            let k : Keeps h (keepAct n h) tx tx′ mp mp′ c (z .spot) y e = kept-by (kept.To c y e) q in
             let g′ : v ≡ withCursor (withSpot z y) (cursorBehind s e (z .cursor)) = g ∙ ap (λ (j : Stage). withCursor j (cursorBehind s e (j .cursor))) f in
-            subst⁻¹ (λ (j : Stage). WrittenBy (step.On (withSettings j c)) (keepTurn n h)) g′
-            (written-to e c y (k .written) (keepTurn n h) (k .turn-is) (k .puts) (k .in-text) (k .in-map) i′)
+            subst⁻¹ (λ (j : Stage). WrittenBy (step.On (withSettings j c)) (keepAct n h)) g′
+            (written-to e c y (k .written) (keepAct n h) (k .turn-is) (k .puts) (k .in-text) (k .in-map) (inside-there fixed here limit ms e ok (k .ends)))

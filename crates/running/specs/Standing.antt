@@ -22,7 +22,9 @@ use Rattle.copying.specs.Cursors.{opening}
 use Rattle.copying.specs.Copying.{Reads, Copyable}
 use Rattle.copying.specs.declared.Cursor.{Cursor}
 use Rattle.turns.specs.States.{Context, Frame, State, Made, Turn, more, stop, finished, Here}
-use Rattle.turns.specs.Usages.{hereAt}
+use Rattle.turns.specs.Acts.{Act}
+use Rattle.turns.specs.Performing.{perform}
+use Rattle.turns.specs.Turns.{hereAt}
 use Rattle.running.specs.declared.stage.Stage.{Stage}
 use Rattle.running.specs.declared.stage.Step.{Step}
 use Rattle.running.specs.declared.stage.Step.the-variants as step
@@ -212,6 +214,10 @@ pub record Stops (B B′ : Bufs) (ms : List Macro) (z z′ : Stage) (n f p : ℕ
 abbrev pub SteppedBy : Step → List ℕ → List (List ℕ) → ℕ → Bufs → Bufs → List Macro → Stage → Turn → Type 0
 SteppedBy (step.On z′) store table limit B B′ ms z u = Moves limit B B′ z z′ u × Ok store table B′ z′
 SteppedBy (step.Ended z′ n f p) store table limit B B′ ms z u = Stops B B′ ms z z′ n f p u
+
+-- the step carried out the act a of the token here
+abbrev pub Performed : Step → Context → List ℕ → List (List ℕ) → ℕ → Bufs → Bufs → List Macro → Stage → (Here → Act) → Type 0
+Performed r x store table limit B B′ ms z a = let h = hereOf x limit B ms z in SteppedBy r store table limit B B′ ms z (perform h (a h))
 
 -- the work space of a run
 pub record Works (list out ranges : List (List ℕ)) (stack work quoted decimal name form : List ℕ) : Type 0 where

@@ -6,10 +6,9 @@ ghost use Rattle.definition.specs.Definitions.{Macro, definitionAt};
 ghost use Rattle.store.specs.Buffers.{Holds, Stored};
 ghost use Rattle.macros.specs.Defining.{Ready};
 ghost use Rattle.copying.specs.Copying.{Reads};
-ghost use Rattle.turns.specs.States.{Context, goTo};
-ghost use Rattle.turns.specs.States.{behind as behindHere};
-ghost use Rattle.turns.specs.Turns.{defineTurn, hideTurn, undefTurn};
-ghost use Rattle.running.specs.Standing.{bufs, hereOf, Fixed, At, Ok, SteppedBy};
+ghost use Rattle.turns.specs.States.{Context};
+ghost use Rattle.turns.specs.Acts.{undefines, defineAct, hideAct, undefAct};
+ghost use Rattle.running.specs.Standing.{bufs, Fixed, At, Ok, Performed};
 use crate::stage::Stage;
 use crate::stage::Step;
 use crate::stage::behind;
@@ -38,7 +37,7 @@ pub(crate) fn define(
     z: Stage,
 ) -> Step
     requires { ⌜ Ready (now s) (now bytes) (now records) (z .macros) (now name) (now work) (now form) × Reads (now s) 0 (z .cursor) ⌝ }
-    ensures { λ r. ⌜ ((x : Context) (ms : List Macro) (fs : List ℕ) (es : List (List ℕ)) (set : ℕ) (limit : ℕ) (tx : List ℕ) (mp : List ℕ) (fr : List (List ℕ)) (cd : List (List ℕ)) → Fixed x fs es set (bufs tx mp (now (bytes .entry)) (now (records .entry)) fr cd) → At fs es (now (s .entry)) t z → Ok fs es (bufs tx mp (now (bytes .entry)) (now (records .entry)) fr cd) z → Holds ms (now (bytes .entry)) (now (records .entry)) (z .macros) → SteppedBy r fs es limit (bufs tx mp (now (bytes .entry)) (now (records .entry)) fr cd) (bufs tx mp (now (bytes .exit)) (now (records .exit)) fr cd) ms z (defineTurn (hereOf x limit (bufs tx mp (now (bytes .entry)) (now (records .entry)) fr cd) ms z) (definitionAt (now (s .entry)) (t .end)))) ⌝ }
+    ensures { λ r. ⌜ ((x : Context) (ms : List Macro) (fs : List ℕ) (es : List (List ℕ)) (set : ℕ) (limit : ℕ) (tx : List ℕ) (mp : List ℕ) (fr : List (List ℕ)) (cd : List (List ℕ)) → Fixed x fs es set (bufs tx mp (now (bytes .entry)) (now (records .entry)) fr cd) → At fs es (now (s .entry)) t z → Ok fs es (bufs tx mp (now (bytes .entry)) (now (records .entry)) fr cd) z → Holds ms (now (bytes .entry)) (now (records .entry)) (z .macros) → Performed r x fs es limit (bufs tx mp (now (bytes .entry)) (now (records .entry)) fr cd) (bufs tx mp (now (bytes .exit)) (now (records .exit)) fr cd) ms z (λ h. defineAct (h .token .at) (definitionAt (now (s .entry)) (t .end)))) ⌝ }
 {
     let r = define_at(s, t.end, bytes, records, z.macros, name, work, form);
     match r {
@@ -56,7 +55,7 @@ pub(crate) fn define(
 // In ignored text a definition hides all up to its end.
 pub(crate) fn hide(s: &[u8], t: Token, name: &mut [u8], stack: &mut [u8], z: Stage) -> Step
     requires { ⌜ (1025 ≤ length (now name)) × (16384 ≤ length (now stack)) × Reads (now s) 0 (z .cursor) ⌝ }
-    ensures { λ r. ⌜ ((x : Context) (ms : List Macro) (fs : List ℕ) (es : List (List ℕ)) (set : ℕ) (limit : ℕ) (tx : List ℕ) (mp : List ℕ) (bs : List ℕ) (rs : List (List ℕ)) (fr : List (List ℕ)) (cd : List (List ℕ)) → Fixed x fs es set (bufs tx mp bs rs fr cd) → At fs es (now (s .entry)) t z → Ok fs es (bufs tx mp bs rs fr cd) z → Holds ms bs rs (z .macros) → SteppedBy r fs es limit (bufs tx mp bs rs fr cd) (bufs tx mp bs rs fr cd) ms z (hideTurn (hereOf x limit (bufs tx mp bs rs fr cd) ms z) (definitionAt (now (s .entry)) (t .end)))) ⌝ }
+    ensures { λ r. ⌜ ((x : Context) (ms : List Macro) (fs : List ℕ) (es : List (List ℕ)) (set : ℕ) (limit : ℕ) (tx : List ℕ) (mp : List ℕ) (bs : List ℕ) (rs : List (List ℕ)) (fr : List (List ℕ)) (cd : List (List ℕ)) → Fixed x fs es set (bufs tx mp bs rs fr cd) → At fs es (now (s .entry)) t z → Ok fs es (bufs tx mp bs rs fr cd) z → Holds ms bs rs (z .macros) → Performed r x fs es limit (bufs tx mp bs rs fr cd) (bufs tx mp bs rs fr cd) ms z (λ h. hideAct (definitionAt (now (s .entry)) (t .end)))) ⌝ }
 {
     let r = judge_definition(s, t.end, name, stack);
     match r {
@@ -76,7 +75,7 @@ pub(crate) fn undef(
     z: Stage,
 ) -> Step
     requires { ⌜ (length (now bytes) ≤ 65536) × Stored (now bytes) (now records) (z .macros) × Reads (now s) 0 (z .cursor) ⌝ }
-    ensures { λ r. ⌜ ((x : Context) (ms : List Macro) (fs : List ℕ) (es : List (List ℕ)) (set : ℕ) (limit : ℕ) (tx : List ℕ) (mp : List ℕ) (fr : List (List ℕ)) (cd : List (List ℕ)) → Fixed x fs es set (bufs tx mp (now (bytes .entry)) (now (records .entry)) fr cd) → At fs es (now (s .entry)) t z → Ok fs es (bufs tx mp (now (bytes .entry)) (now (records .entry)) fr cd) z → Holds ms (now (bytes .entry)) (now (records .entry)) (z .macros) → SteppedBy r fs es limit (bufs tx mp (now (bytes .entry)) (now (records .entry)) fr cd) (bufs tx mp (now (bytes .exit)) (now (records .exit)) fr cd) ms z (undefTurn (hereOf x limit (bufs tx mp (now (bytes .entry)) (now (records .entry)) fr cd) ms z))) ⌝ }
+    ensures { λ r. ⌜ ((x : Context) (ms : List Macro) (fs : List ℕ) (es : List (List ℕ)) (set : ℕ) (limit : ℕ) (tx : List ℕ) (mp : List ℕ) (fr : List (List ℕ)) (cd : List (List ℕ)) → Fixed x fs es set (bufs tx mp (now (bytes .entry)) (now (records .entry)) fr cd) → At fs es (now (s .entry)) t z → Ok fs es (bufs tx mp (now (bytes .entry)) (now (records .entry)) fr cd) z → Holds ms (now (bytes .entry)) (now (records .entry)) (z .macros) → Performed r x fs es limit (bufs tx mp (now (bytes .entry)) (now (records .entry)) fr cd) (bufs tx mp (now (bytes .exit)) (now (records .exit)) fr cd) ms z (λ h. undefAct h)) ⌝ }
 {
     let f = name_after(UNDEF, s, t);
     match f {
@@ -99,7 +98,7 @@ pub(crate) fn undef_all(
     z: Stage,
 ) -> Step
     requires { ⌜ Stored (now bytes) (now records) (z .macros) × Reads (now s) 0 (z .cursor) ⌝ }
-    ensures { λ r. ⌜ ((x : Context) (ms : List Macro) (fs : List ℕ) (es : List (List ℕ)) (set : ℕ) (limit : ℕ) (tx : List ℕ) (mp : List ℕ) (fr : List (List ℕ)) (cd : List (List ℕ)) → Fixed x fs es set (bufs tx mp (now (bytes .entry)) (now (records .entry)) fr cd) → At fs es (now (s .entry)) t z → Ok fs es (bufs tx mp (now (bytes .entry)) (now (records .entry)) fr cd) z → Holds ms (now (bytes .entry)) (now (records .entry)) (z .macros) → SteppedBy r fs es limit (bufs tx mp (now (bytes .entry)) (now (records .entry)) fr cd) (bufs tx mp (now (bytes .exit)) (now (records .exit)) fr cd) ms z (goTo (hereOf x limit (bufs tx mp (now (bytes .entry)) (now (records .entry)) fr cd) ms z) (behindHere (hereOf x limit (bufs tx mp (now (bytes .entry)) (now (records .entry)) fr cd) ms z) (t .end)) ((hereOf x limit (bufs tx mp (now (bytes .entry)) (now (records .entry)) fr cd) ms z) .state .conds) [])) ⌝ }
+    ensures { λ r. ⌜ ((x : Context) (ms : List Macro) (fs : List ℕ) (es : List (List ℕ)) (set : ℕ) (limit : ℕ) (tx : List ℕ) (mp : List ℕ) (fr : List (List ℕ)) (cd : List (List ℕ)) → Fixed x fs es set (bufs tx mp (now (bytes .entry)) (now (records .entry)) fr cd) → At fs es (now (s .entry)) t z → Ok fs es (bufs tx mp (now (bytes .entry)) (now (records .entry)) fr cd) z → Holds ms (now (bytes .entry)) (now (records .entry)) (z .macros) → Performed r x fs es limit (bufs tx mp (now (bytes .entry)) (now (records .entry)) fr cd) (bufs tx mp (now (bytes .exit)) (now (records .exit)) fr cd) ms z (λ h. undefines [] (t .end))) ⌝ }
 {
     undefine_all(bytes, records, z.macros);
     let mut y = behind(z, s, t.end);

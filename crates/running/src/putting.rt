@@ -9,10 +9,8 @@ ghost use Rattle.definition.specs.Definitions.{Macro};
 ghost use Rattle.store.specs.Buffers.{Holds};
 ghost use Rattle.copying.specs.Copying.{Reads};
 ghost use Rattle.turns.specs.States.{Context};
-ghost use Rattle.turns.specs.States.{refuse as refuseHere};
-ghost use Rattle.turns.specs.Turns.{keepTurn, fileWord, lineWord, wordTurn};
-ghost use Rattle.turns.specs.Usages.{usageTurn};
-ghost use Rattle.running.specs.Standing.{bufs, hereOf, Fixed, At, Ok, SteppedBy, PlaceLent, UsageLent};
+ghost use Rattle.turns.specs.Acts.{spells, expands, refusesHere, keepAct, fileWord, lineWord};
+ghost use Rattle.running.specs.Standing.{bufs, Fixed, At, Ok, Performed, PlaceLent, UsageLent};
 use crate::stage::Stage;
 use crate::stage::Step;
 use crate::stage::behind;
@@ -45,7 +43,7 @@ pub(crate) fn keep_on(
     z: Stage,
 ) -> Step
     requires { ⌜ (z .file ≤ 63) × (z .spot .written ≤ length (now text)) × (z .spot .lines ≤ length (now map)) × Reads (now s) 0 (z .cursor) ⌝ }
-    ensures { λ r. ⌜ ((x : Context) (ms : List Macro) (fs : List ℕ) (es : List (List ℕ)) (limit : ℕ) (bs : List ℕ) (rs : List (List ℕ)) (fr : List (List ℕ)) (cd : List (List ℕ)) → Fixed x fs es set (bufs (now (text .entry)) (now (map .entry)) bs rs fr cd) → At fs es (now (s .entry)) t z → Ok fs es (bufs (now (text .entry)) (now (map .entry)) bs rs fr cd) z → Holds ms bs rs (z .macros) → SteppedBy r fs es limit (bufs (now (text .entry)) (now (map .entry)) bs rs fr cd) (bufs (now (text .exit)) (now (map .exit)) bs rs fr cd) ms z (keepTurn d (hereOf x limit (bufs (now (text .entry)) (now (map .entry)) bs rs fr cd) ms z))) ⌝ }
+    ensures { λ r. ⌜ ((x : Context) (ms : List Macro) (fs : List ℕ) (es : List (List ℕ)) (limit : ℕ) (bs : List ℕ) (rs : List (List ℕ)) (fr : List (List ℕ)) (cd : List (List ℕ)) → Fixed x fs es set (bufs (now (text .entry)) (now (map .entry)) bs rs fr cd) → At fs es (now (s .entry)) t z → Ok fs es (bufs (now (text .entry)) (now (map .entry)) bs rs fr cd) z → Holds ms bs rs (z .macros) → Performed r x fs es limit (bufs (now (text .entry)) (now (map .entry)) bs rs fr cd) (bufs (now (text .exit)) (now (map .exit)) bs rs fr cd) ms z (λ h. keepAct d h)) ⌝ }
 {
     let c = z.cursor;
     let r = keep(
@@ -72,7 +70,7 @@ pub(crate) fn keep_on(
 // What one of the two `__` words writes.
 fn write_word(s: &[u8], t: Token, w: &[u8], text: &mut [u8], map: &mut [u32], z: Stage) -> Step
     requires { ⌜ (z .file ≤ 63) × (z .spot .written ≤ length (now text)) × (z .spot .lines ≤ length (now map)) × Reads (now s) 0 (z .cursor) ⌝ }
-    ensures { λ r. ⌜ ((x : Context) (ms : List Macro) (fs : List ℕ) (es : List (List ℕ)) (set : ℕ) (limit : ℕ) (bs : List ℕ) (rs : List (List ℕ)) (fr : List (List ℕ)) (cd : List (List ℕ)) → Fixed x fs es set (bufs (now (text .entry)) (now (map .entry)) bs rs fr cd) → At fs es (now (s .entry)) t z → Ok fs es (bufs (now (text .entry)) (now (map .entry)) bs rs fr cd) z → Holds ms bs rs (z .macros) → SteppedBy r fs es limit (bufs (now (text .entry)) (now (map .entry)) bs rs fr cd) (bufs (now (text .exit)) (now (map .exit)) bs rs fr cd) ms z (wordTurn (hereOf x limit (bufs (now (text .entry)) (now (map .entry)) bs rs fr cd) ms z) (now (w .entry)))) ⌝ }
+    ensures { λ r. ⌜ ((x : Context) (ms : List Macro) (fs : List ℕ) (es : List (List ℕ)) (set : ℕ) (limit : ℕ) (bs : List ℕ) (rs : List (List ℕ)) (fr : List (List ℕ)) (cd : List (List ℕ)) → Fixed x fs es set (bufs (now (text .entry)) (now (map .entry)) bs rs fr cd) → At fs es (now (s .entry)) t z → Ok fs es (bufs (now (text .entry)) (now (map .entry)) bs rs fr cd) z → Holds ms bs rs (z .macros) → Performed r x fs es limit (bufs (now (text .entry)) (now (map .entry)) bs rs fr cd) (bufs (now (text .exit)) (now (map .exit)) bs rs fr cd) ms z (λ h. spells (now (w .entry)))) ⌝ }
 {
     let c = z.cursor;
     let r = write_whole(w, place_of(z.file, c.line), 0, text, map, z.spot);
@@ -96,7 +94,7 @@ pub(crate) fn write_place_word(
     z: Stage,
 ) -> Step
     requires { ⌜ PlaceLent (now files) (now table) (now s) (now quoted) (now decimal) (now text) (now map) z ⌝ }
-    ensures { λ r. ⌜ ((x : Context) (ms : List Macro) (set : ℕ) (limit : ℕ) (bs : List ℕ) (rs : List (List ℕ)) (fr : List (List ℕ)) (cd : List (List ℕ)) → Fixed x (now (files .entry)) (now (table .entry)) set (bufs (now (text .entry)) (now (map .entry)) bs rs fr cd) → At (now (files .entry)) (now (table .entry)) (now (s .entry)) t z → Ok (now (files .entry)) (now (table .entry)) (bufs (now (text .entry)) (now (map .entry)) bs rs fr cd) z → Holds ms bs rs (z .macros) → SteppedBy r (now (files .entry)) (now (table .entry)) limit (bufs (now (text .entry)) (now (map .entry)) bs rs fr cd) (bufs (now (text .exit)) (now (map .exit)) bs rs fr cd) ms z (let h = hereOf x limit (bufs (now (text .entry)) (now (map .entry)) bs rs fr cd) ms z in cond (eqb d FileWord) (wordTurn h (fileWord h)) (cond (eqb d LineWord) (wordTurn h (lineWord h)) (refuseHere h 7)))) ⌝ }
+    ensures { λ r. ⌜ ((x : Context) (ms : List Macro) (set : ℕ) (limit : ℕ) (bs : List ℕ) (rs : List (List ℕ)) (fr : List (List ℕ)) (cd : List (List ℕ)) → Fixed x (now (files .entry)) (now (table .entry)) set (bufs (now (text .entry)) (now (map .entry)) bs rs fr cd) → At (now (files .entry)) (now (table .entry)) (now (s .entry)) t z → Ok (now (files .entry)) (now (table .entry)) (bufs (now (text .entry)) (now (map .entry)) bs rs fr cd) z → Holds ms bs rs (z .macros) → Performed r x (now (files .entry)) (now (table .entry)) limit (bufs (now (text .entry)) (now (map .entry)) bs rs fr cd) (bufs (now (text .exit)) (now (map .exit)) bs rs fr cd) ms z (λ h. cond (eqb d FileWord) (spells (fileWord h)) (cond (eqb d LineWord) (spells (lineWord h)) (refusesHere h 7)))) ⌝ }
 {
     if d == FILE_WORD {
         let n = quote(name_at(files, table, z.file), quoted);
@@ -131,7 +129,7 @@ pub(crate) fn usage<'a>(
     z: Stage,
 ) -> Step
     requires { ⌜ UsageLent (now files) (now table) (now s) t (now bytes) (now records) (now list) (now out) (now ranges) (now stack) (now work) (now quoted) (now decimal) (now text) (now map) z ⌝ }
-    ensures { λ r. ⌜ ((x : Context) (ms : List Macro) (set : ℕ) (fr : List (List ℕ)) (cd : List (List ℕ)) → Fixed x (now (files .entry)) (now (table .entry)) set (bufs (now (text .entry)) (now (map .entry)) (now (bytes .entry)) (now (records .entry)) fr cd) → At (now (files .entry)) (now (table .entry)) (now (s .entry)) t z → Ok (now (files .entry)) (now (table .entry)) (bufs (now (text .entry)) (now (map .entry)) (now (bytes .entry)) (now (records .entry)) fr cd) z → Holds ms (now (bytes .entry)) (now (records .entry)) (z .macros) → SteppedBy r (now (files .entry)) (now (table .entry)) limit (bufs (now (text .entry)) (now (map .entry)) (now (bytes .entry)) (now (records .entry)) fr cd) (bufs (now (text .exit)) (now (map .exit)) (now (bytes .entry)) (now (records .entry)) fr cd) ms z (usageTurn (hereOf x limit (bufs (now (text .entry)) (now (map .entry)) (now (bytes .entry)) (now (records .entry)) fr cd) ms z))) ⌝ }
+    ensures { λ r. ⌜ ((x : Context) (ms : List Macro) (set : ℕ) (fr : List (List ℕ)) (cd : List (List ℕ)) → Fixed x (now (files .entry)) (now (table .entry)) set (bufs (now (text .entry)) (now (map .entry)) (now (bytes .entry)) (now (records .entry)) fr cd) → At (now (files .entry)) (now (table .entry)) (now (s .entry)) t z → Ok (now (files .entry)) (now (table .entry)) (bufs (now (text .entry)) (now (map .entry)) (now (bytes .entry)) (now (records .entry)) fr cd) z → Holds ms (now (bytes .entry)) (now (records .entry)) (z .macros) → Performed r x (now (files .entry)) (now (table .entry)) limit (bufs (now (text .entry)) (now (map .entry)) (now (bytes .entry)) (now (records .entry)) fr cd) (bufs (now (text .exit)) (now (map .exit)) (now (bytes .entry)) (now (records .entry)) fr cd) ms z (λ h. expands)) ⌝ }
 {
     let c = z.cursor;
     let q = quote(name_at(files, table, z.file), quoted);

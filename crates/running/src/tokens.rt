@@ -4,9 +4,9 @@ ghost use Prim.Native.Nat.{ℕ};
 ghost use Rattle.definition.specs.Definitions.{Macro};
 ghost use Rattle.store.specs.Buffers.{Holds};
 ghost use Rattle.turns.specs.States.{Context};
-ghost use Rattle.turns.specs.Usages.{takenTurn, tokenTurn};
+ghost use Rattle.turns.specs.Acts.{takenAct, actAt};
 ghost use Rattle.reading.specs.Reading.{Halts};
-ghost use Rattle.running.specs.Standing.{bufs, hereOf, Fixed, At, Ok, SteppedBy, Works, GoingIn};
+ghost use Rattle.running.specs.Standing.{bufs, Fixed, At, Ok, Performed, Works, GoingIn};
 use crate::defining::define;
 use crate::defining::hide;
 use crate::defining::undef;
@@ -54,7 +54,7 @@ pub(crate) fn take<'a>(
     z: Stage,
 ) -> Step
     requires { ⌜ GoingIn (now files) (now table) (now text) (now map) (now bytes) (now records) (now frames) z × At (now files) (now table) (now s) t z × Works (now list) (now out) (now ranges) (now stack) (now work) (now quoted) (now decimal) (now name) (now form) ⌝ }
-    ensures { λ r. ⌜ ((x : Context) (ms : List Macro) (cd : List (List ℕ)) → Fixed x (now (files .entry)) (now (table .entry)) set (bufs (now (text .entry)) (now (map .entry)) (now (bytes .entry)) (now (records .entry)) (now (frames .entry)) cd) → At (now (files .entry)) (now (table .entry)) (now (s .entry)) t z → Ok (now (files .entry)) (now (table .entry)) (bufs (now (text .entry)) (now (map .entry)) (now (bytes .entry)) (now (records .entry)) (now (frames .entry)) cd) z → Holds ms (now (bytes .entry)) (now (records .entry)) (z .macros) → SteppedBy r (now (files .entry)) (now (table .entry)) limit (bufs (now (text .entry)) (now (map .entry)) (now (bytes .entry)) (now (records .entry)) (now (frames .entry)) cd) (bufs (now (text .exit)) (now (map .exit)) (now (bytes .exit)) (now (records .exit)) (now (frames .exit)) cd) ms z (takenTurn d (hereOf x limit (bufs (now (text .entry)) (now (map .entry)) (now (bytes .entry)) (now (records .entry)) (now (frames .entry)) cd) ms z))) ⌝ }
+    ensures { λ r. ⌜ ((x : Context) (ms : List Macro) (cd : List (List ℕ)) → Fixed x (now (files .entry)) (now (table .entry)) set (bufs (now (text .entry)) (now (map .entry)) (now (bytes .entry)) (now (records .entry)) (now (frames .entry)) cd) → At (now (files .entry)) (now (table .entry)) (now (s .entry)) t z → Ok (now (files .entry)) (now (table .entry)) (bufs (now (text .entry)) (now (map .entry)) (now (bytes .entry)) (now (records .entry)) (now (frames .entry)) cd) z → Holds ms (now (bytes .entry)) (now (records .entry)) (z .macros) → Performed r x (now (files .entry)) (now (table .entry)) limit (bufs (now (text .entry)) (now (map .entry)) (now (bytes .entry)) (now (records .entry)) (now (frames .entry)) cd) (bufs (now (text .exit)) (now (map .exit)) (now (bytes .exit)) (now (records .exit)) (now (frames .exit)) cd) ms z (λ h. takenAct d h)) ⌝ }
 {
     if d == 0 {
         return usage(
@@ -121,7 +121,7 @@ pub(crate) fn special(
     z: Stage,
 ) -> Step
     requires { ⌜ GoingIn (now files) (now table) (now text) (now map) (now bytes) (now records) (now frames) z × At (now files) (now table) (now s) t z × Halts (now s) (z .cursor) t d × Works (now list) (now out) (now ranges) (now stack) (now work) (now quoted) (now decimal) (now name) (now form) ⌝ }
-    ensures { λ r. ⌜ ((x : Context) (ms : List Macro) (cd : List (List ℕ)) → Fixed x (now (files .entry)) (now (table .entry)) set (bufs (now (text .entry)) (now (map .entry)) (now (bytes .entry)) (now (records .entry)) (now (frames .entry)) cd) → At (now (files .entry)) (now (table .entry)) (now (s .entry)) t z → Ok (now (files .entry)) (now (table .entry)) (bufs (now (text .entry)) (now (map .entry)) (now (bytes .entry)) (now (records .entry)) (now (frames .entry)) cd) z → Holds ms (now (bytes .entry)) (now (records .entry)) (z .macros) → SteppedBy r (now (files .entry)) (now (table .entry)) limit (bufs (now (text .entry)) (now (map .entry)) (now (bytes .entry)) (now (records .entry)) (now (frames .entry)) cd) (bufs (now (text .exit)) (now (map .exit)) (now (bytes .exit)) (now (records .exit)) (now (frames .exit)) cd) ms z (tokenTurn (hereOf x limit (bufs (now (text .entry)) (now (map .entry)) (now (bytes .entry)) (now (records .entry)) (now (frames .entry)) cd) ms z))) ⌝ }
+    ensures { λ r. ⌜ ((x : Context) (ms : List Macro) (cd : List (List ℕ)) → Fixed x (now (files .entry)) (now (table .entry)) set (bufs (now (text .entry)) (now (map .entry)) (now (bytes .entry)) (now (records .entry)) (now (frames .entry)) cd) → At (now (files .entry)) (now (table .entry)) (now (s .entry)) t z → Ok (now (files .entry)) (now (table .entry)) (bufs (now (text .entry)) (now (map .entry)) (now (bytes .entry)) (now (records .entry)) (now (frames .entry)) cd) z → Holds ms (now (bytes .entry)) (now (records .entry)) (z .macros) → Performed r x (now (files .entry)) (now (table .entry)) limit (bufs (now (text .entry)) (now (map .entry)) (now (bytes .entry)) (now (records .entry)) (now (frames .entry)) cd) (bufs (now (text .exit)) (now (map .exit)) (now (bytes .exit)) (now (records .exit)) (now (frames .exit)) cd) ms z (λ h. actAt h)) ⌝ }
 {
     if t.kind == END {
         return end_file(frames, text, map, z);

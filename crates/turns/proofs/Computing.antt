@@ -13,10 +13,10 @@ use Rattle.blocks.specs.Blocks.{openBlock, nextBlock, closeBlock}
 use Rattle.copying.specs.Cursors.{cursorPast, cursorBehind}
 use Rattle.handover.specs.Entries.{nameBytes, isFileName, isEntry, allEntries, entryOf}
 use Rattle.handover.specs.Sizes.{isSound}
-use Rattle.turns.specs.Turns.{conditionalTurn}
-use Rattle.turns.specs.Usages.{takenTurn, tokenTurn, turnAt}
+use Rattle.turns.specs.Acts.{conditionalAct, takenAct, actAt}
+use Rattle.turns.specs.Turns.{turnAt}
 use Rattle.turns.specs.Runs.{runFor, power, measure, runFrom, flattened}
 
 unfoldable pub flattening : ℕ
-unfolding defining expanding wordIn wordAt nameForm aloneValue formAt define undefine encode fits parameterForms headForm formOf allStarts startedFrom startsFit newlines lineAt decimal openBlock nextBlock closeBlock cursorPast cursorBehind nameBytes isFileName isEntry allEntries entryOf isSound conditionalTurn takenTurn tokenTurn turnAt runFor power measure runFrom flattened
+unfolding defining expanding wordIn wordAt nameForm aloneValue formAt define undefine encode fits parameterForms headForm formOf allStarts startedFrom startsFit newlines lineAt decimal openBlock nextBlock closeBlock cursorPast cursorBehind nameBytes isFileName isEntry allEntries entryOf isSound conditionalAct takenAct actAt turnAt runFor power measure runFrom flattened
 flattening = 0

@@ -1,6 +1,11 @@
 pub mod Computing
 pub mod Claims
 pub mod Inside
+pub mod Forms
+pub mod Definitions
+pub mod Usages
+pub mod Acts
+pub mod Asking
 pub mod Progress
 pub mod Running
 pub mod Leading

@@ -1,40 +1,31 @@
 -- What is written fits the rooms lent for text and map, and the map has one number for each line of the text.
 -- Assumes nothing.
 use Prim.Native.Nat.{ℕ, zero, suc, _-_, _≤_}
-use mathlib.Core.Bool.{Bool, true, false, cond, not, _&&_, _||_}
-use mathlib.Core.Option.{Option, none, some}
+use mathlib.Core.Bool.{Bool, true, false}
 use mathlib.Core.List.{List, [], _∷_, _++_, append-nil}
 use mathlib.Core.Path.{_≡_, refl, ap, subst}
 use native.Mathlib.Nat.{sub-zero}
 use native.Mathlib.Omega.{arith}
-use lib.Dec.{eqb, leb, ltb}
-use lib.ListN.{length, getD, length-append}
+use lib.Dec.{eqb, ltb}
+use lib.ListN.{length, length-append}
 use borrow.Author.Tests.{ltb-false}
-use Rattle.text.specs.Bytes.{part}
-use Rattle.lex.specs.Tokens.{Grave, End, is, nameOf}
+use Rattle.lex.specs.Tokens.{nameOf}
 use Rattle.lex.proofs.Tests.{by-test}
-use Rattle.names.specs.Names.{FileWord, LineWord, Define, Undef, UndefineAll, Ifdef, Elsif, Else, Endif, Include, Resetall, EndKeywords, directiveOf}
-use Rattle.directive.specs.declared.Value.{Value}
-use Rattle.directive.specs.declared.Form.{Form}
-use Rattle.directive.specs.declared.Form.the-variants.{Formed, Unformed, Barred}
-use Rattle.directive.specs.declared.FileName.{FileName}
-use Rattle.directive.specs.declared.FileName.the-variants.{Unnamed, Quoted, Angled}
-use Rattle.directive.specs.declared.IncludeLine.{IncludeLine}
-use Rattle.directive.specs.Include.{includeAt}
-use Rattle.definition.specs.Definitions.{Macro, Definition, barred, bad, good, definitionAt}
+use Rattle.definition.specs.Definitions.{Macro}
 use Rattle.store.specs.Stores.{define, fits}
 use Rattle.settings.specs.declared.Settings.{Settings}
 use Rattle.writing.specs.Written.{Written, put, placed, textOf, mapOf, freshAfter, Room, Put, full, fitted, putIn}
 use Rattle.writing.proofs.Laws.{text-length, map-append}
 use Rattle.pending.specs.Pending.{Pending, View, blanks, calls, names, opens, closes, commas, bars, plain, view}
 use Rattle.replace.specs.Replacing.{Got, refused, got, replace}
-use Rattle.blocks.specs.Blocks.{Conditional, takenBy, openBlock, nextBlock, closeBlock}
-use Rattle.handover.specs.Entries.{entryOf}
+use Rattle.blocks.specs.Blocks.{Conditional}
 use Rattle.handover.specs.Sizes.{HandOver, Rooms, isSound}
-use Rattle.expand.specs.Expanding.{Outer, Expansion, Next, dealBy, onGot, walk, onward, onPut as puts, writes as spells, first, goesOn, expand}
+use Rattle.expand.specs.Expanding.{Outer, Expansion, Next, dealBy, onGot, walk, onward, onPut as puts, writes as printed, first, expand}
 use Rattle.turns.specs.States.{Context, Frame, State, Turn, more, stop, finished, Here, onPut, write, goTo, refuseAt, roomAfter}
-use Rattle.turns.specs.Turns.{copyTurn, skipTurn, endTurn, onForm, onBlocks, isDefined, formHere, openTurn, conditionTurn, conditionalTurn, defineTurn, hideTurn, undefTurn, enterTurn, includeBy, includeTurn, keepTurn, wordTurn}
-use Rattle.turns.specs.Usages.{afterUsage, usageTurn, takenTurn, ignoredTurn, graveTurn, tokenTurn, lastTurn, hereAt, frameTurn, turnAt, outerOf}
+use Rattle.turns.specs.Acts.{Act, refuses, leaves, copies, skips, hides, branches, defines, undefines, includes, keeps, spells, expands, actAt}
+use Rattle.turns.specs.Usages.{afterUsage, usageEnd, expandHere, outerOf}
+use Rattle.turns.specs.Performing.{perform}
+use Rattle.turns.specs.Turns.{lastTurn, hereAt, frameTurn, turnAt}
 use Rattle.turns.specs.Runs.{Run, Outcome, follow, runFor, measure, runFrom, contextOf, startOf, flattened}
 use Rattle.turns.specs.Lines.{linesFrom, linesIn}
 
@@ -106,7 +97,7 @@ walk-fits : (go : Next) → ((q rest : List Pending) (r : Room) → Fits r (go q
 unfolding walk
 walk-fits go f o ms [] r = fits-none r
 walk-fits go f o ms (p ∷ ps) r =
-    let ws = placed 0 (o .place) (spells o p) in
+    let ws = placed 0 (o .place) (printed o p) in
     deal-fits r (view p) (puts ws r (putIn r ws) (λ r′. walk go o ms r′ ps)) (λ w. onGot go r (replace ms w (p .own) ps))
     (puts-fits r ws (putIn r ws) (put-fits r ws) (λ r′. walk go o ms r′ ps) (λ r′. walk-fits go f o ms ps r′))
     (λ w. got-fits r go (λ q rest. f q rest r) (replace ms w (p .own) ps))
@@ -152,113 +143,26 @@ module _ (h : Here) where
   write-fits : (ws : List Written) (fs : List Frame) (c : Settings) → Turns (write h ws fs c)
   write-fits ws fs c = put-turns ws fs c (putIn (h .state .room) ws) (put-fits (h .state .room) ws)
 
-  copy-fits : Turns (copyTurn h)
-  copy-fits = write-fits _ _ _
-
-  skip-fits : Turns (skipTurn h)
-  skip-fits = go-fits _ _ _
-
-  end-fits : Turns (endTurn h)
-  end-fits = by-test Turns (h .frame .cursor .comment) (λ e. write-fits _ _ _) (λ e. go-fits _ _ _)
-
-  form-fits : (f : Form) (g : Value → ℕ → Turn) → ((v : Value) (e : ℕ) → Turns (g v e)) → Turns (onForm h f g)
-  form-fits (Formed v e) g k = k v e
-  form-fits Unformed g k = refuse-fits _ _
-  form-fits (Barred n p) g k = refuse-fits _ _
-
-  blocks-fit : (e : ℕ) (cs : Option (List Conditional)) → Turns (onBlocks h e cs)
-  blocks-fit e none = refuse-fits _ _
-  blocks-fit e (some cs) = go-fits _ _ _
-
-  open-fits : (b : Bool) (e : ℕ) → Turns (openTurn h b e)
-  open-fits b e = blocks-fit e (openBlock (h .frame .file) (h .token .at) b (h .state .conds))
-
-  condition-fits : (d : ℕ) (v : Value) (e : ℕ) → Turns (conditionTurn d h v e)
-  condition-fits d v e =
-      by-test Turns (eqb d Elsif) (λ q. blocks-fit e (nextBlock (isDefined h v) false (h .state .conds)))
-      (λ q. open-fits (cond (eqb d Ifdef) (isDefined h v) (not (isDefined h v))) e)
-
-  conditional-fits : (d : ℕ) → Turns (conditionalTurn d h)
-  unfolding conditionalTurn
-  conditional-fits d =
-      by-test Turns (eqb d Endif) (λ q. blocks-fit (h .token .end) (closeBlock (h .state .conds)))
-      (λ q. by-test Turns (eqb d Else) (λ q′. blocks-fit (h .token .end) (nextBlock true true (h .state .conds)))
-      (λ q′. form-fits (formHere d h) (conditionTurn d h) (condition-fits d)))
-
-  define-fits : (d : Definition) → Turns (defineTurn h d)
-  define-fits (barred n p) = refuse-fits _ _
-  define-fits (bad e) = refuse-fits _ _
-  define-fits (good m e) =
-      by-test Turns (fits (h .context .records) (h .context .bytes) (define m (h .state .macros))) (λ q. go-fits _ _ _) (λ q. refuse-fits _ _)
-
-  hide-fits : (d : Definition) → Turns (hideTurn h d)
-  hide-fits (barred n p) = refuse-fits _ _
-  hide-fits (bad e) = go-fits _ _ _
-  hide-fits (good m e) = go-fits _ _ _
-
-  undef-fits : Turns (undefTurn h)
-  undef-fits = form-fits (formHere Undef h) _ (λ v e. go-fits _ _ _)
-
-  enter-fits : (l : IncludeLine) (form : ℕ) (w : List ℕ) → Turns (enterTurn h l form w)
-  enter-fits l form w =
-      let i = entryOf (h .context .store) form w (h .context .table) in
-      by-test Turns (h .frame .cursor .other || (l .other || (eqb form 1 && eqb (getD w 0 0) 47))) (λ q. refuse-fits _ _)
-      (λ q. by-test Turns (leb (length (h .context .table)) i) (λ q′. refuse-fits _ _)
-      (λ q′. by-test Turns (leb 15 (length (h .others))) (λ q″. refuse-fits _ _) (λ q″. go-fits _ _ _)))
-
-  named-fits : (l : IncludeLine) (f : FileName) → Turns (includeBy h l f)
-  named-fits l Unnamed = refuse-fits _ _
-  named-fits l (Quoted a e) = enter-fits l 0 (part (h .body) a e)
-  named-fits l (Angled a e) = enter-fits l 1 (part (h .body) a e)
-
-  include-fits : (l : IncludeLine) → Turns (includeTurn h l)
-  include-fits l = by-test Turns (eqb (l .bars .number) 0) (λ q. named-fits l (l .file)) (λ q. refuse-fits _ _)
-
-  keep-fits : (d : ℕ) → Turns (keepTurn d h)
-  keep-fits d = form-fits (formHere d h) _ (λ v e. write-fits _ _ _)
-
-  word-fits : (w : List ℕ) → Turns (wordTurn h w)
-  word-fits w = write-fits _ _ _
-
   after-fits : (next : ℕ) (e : Expansion) → Fits (h .state .room) (e .text) → Turns (afterUsage h next e)
   unfolding TurnFits
   after-fits next e f = by-test Turns (eqb (e .stop) 0) (λ q. (refl, f)) (λ q. f)
 
-  usage-fits : Turns (usageTurn h)
-  usage-fits =
-      let w = nameOf (h .body) (h .token) in
-      after-fits (goesOn (h .body) (first (h .state .macros) w (h .body) (h .token .end)))
-      (expand (h .state .left) (outerOf h) (h .state .macros) (h .state .room) w (h .body) (h .token .end))
-      (expand-fits (h .state .left) (outerOf h) (h .state .macros) (h .state .room) w (h .body) (h .token .end))
-
-  taken-fits : (d : ℕ) → Turns (takenTurn d h)
-  unfolding takenTurn
-  taken-fits d =
-      by-test Turns (eqb d 0) (λ q. usage-fits)
-      (λ q. by-test Turns (eqb d Define) (λ q1. define-fits (definitionAt (h .body) (h .token .end)))
-      (λ q1. by-test Turns (eqb d Undef) (λ q2. undef-fits)
-      (λ q2. by-test Turns (eqb d UndefineAll) (λ q3. go-fits _ _ _)
-      (λ q3. by-test Turns (eqb d Include) (λ q4. include-fits (includeAt (h .body) (h .token .end)))
-      (λ q4. by-test Turns (leb Resetall d && leb d EndKeywords) (λ q5. keep-fits d)
-      (λ q5. by-test Turns (eqb d FileWord) (λ q6. word-fits _)
-      (λ q6. by-test Turns (eqb d LineWord) (λ q7. word-fits _) (λ q7. refuse-fits _ _))))))))
-
-  ignored-fits : (d : ℕ) → Turns (ignoredTurn d h)
-  ignored-fits d = by-test Turns (eqb d Define) (λ q. hide-fits (definitionAt (h .body) (h .token .end))) (λ q. skip-fits)
-
-  grave-fits : (d : ℕ) → Turns (graveTurn d h)
-  grave-fits d =
-      by-test Turns (leb Ifdef d && leb d Endif) (λ q. conditional-fits d)
-      (λ q. by-test Turns (takenBy (h .state .conds)) (λ q′. taken-fits d) (λ q′. ignored-fits d))
-
-  token-fits : Turns (tokenTurn h)
-  unfolding tokenTurn
-  token-fits =
-      let t = h .token in
-      by-test Turns (not (eqb (t .bar) 0)) (λ q. refuse-fits _ _)
-      (λ q. by-test Turns (is End t) (λ q1. end-fits)
-      (λ q1. by-test Turns (is Grave t) (λ q2. grave-fits (directiveOf (nameOf (h .body) t)))
-      (λ q2. by-test Turns (takenBy (h .state .conds)) (λ q3. copy-fits) (λ q3. skip-fits))))
+  act-fits : (a : Act) → Turns (perform h a)
+  act-fits (refuses n p) = refuse-fits n p
+  act-fits leaves = by-test Turns (h .frame .cursor .comment) (λ e. write-fits _ _ _) (λ e. go-fits _ _ _)
+  act-fits copies = write-fits _ _ _
+  act-fits skips = go-fits _ _ _
+  act-fits (hides e) = go-fits _ _ _
+  act-fits (branches cs e) = go-fits _ _ _
+  act-fits (defines m e) =
+      by-test Turns (fits (h .context .records) (h .context .bytes) (define m (h .state .macros))) (λ q. go-fits _ _ _) (λ q. refuse-fits _ _)
+  act-fits (undefines ms e) = go-fits _ _ _
+  act-fits (includes i e) = go-fits _ _ _
+  act-fits (keeps v e) = write-fits _ _ _
+  act-fits (spells w) = write-fits _ _ _
+  act-fits expands =
+      after-fits (usageEnd h) (expandHere h)
+      (expand-fits (h .state .left) (outerOf h) (h .state .macros) (h .state .room) (nameOf (h .body) (h .token)) (h .body) (h .token .end))
 
 last-fits : (r : Room) (cs : List Conditional) → TurnFits r (lastTurn cs)
 unfolding TurnFits
@@ -267,7 +171,7 @@ last-fits r (c ∷ cs) = fits-none r
 
 frame-fits : (x : Context) (s : State) (fs : List Frame) → TurnFits (s .room) (frameTurn x s fs)
 frame-fits x s [] = last-fits (s .room) (s .conds)
-frame-fits x s (f ∷ fs) = token-fits (hereAt x s f fs)
+frame-fits x s (f ∷ fs) = let h = hereAt x s f fs in act-fits h (actAt h)
 
 turn-fits : (x : Context) (s : State) → TurnFits (s .room) (turnAt x s)
 unfolding turnAt

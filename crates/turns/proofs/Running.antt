@@ -8,7 +8,7 @@ use native.Mathlib.Omega.{arith}
 use Rattle.writing.specs.Written.{Written}
 use Rattle.handover.specs.Entries.{allEntries}
 use Rattle.turns.specs.States.{Context, Frame, State, Made, nothing, Turn, more, stop, finished}
-use Rattle.turns.specs.Usages.{turnAt}
+use Rattle.turns.specs.Turns.{turnAt}
 use Rattle.turns.specs.Runs.{Run, ends, onto, follow, runFor, measure, runFrom}
 use Rattle.turns.proofs.Progress.{turn-falls}
 

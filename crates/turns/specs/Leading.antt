@@ -9,7 +9,7 @@ use Rattle.writing.specs.Written.{Written, Room}
 use Rattle.blocks.specs.Blocks.{Conditional}
 use Rattle.copying.specs.declared.Cursor.{Cursor}
 use Rattle.turns.specs.States.{Context, Frame, State, writes, more}
-use Rattle.turns.specs.Usages.{turnAt}
+use Rattle.turns.specs.Turns.{turnAt}
 
 -- turns lead from one state to another; they write ws and replace nothing
 pub data Leads (x : Context) : State → List Written → State → Type 0 where

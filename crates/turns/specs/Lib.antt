@@ -1,8 +1,12 @@
 pub mod States
-pub mod Turns
+pub mod Acts
+pub mod Asking
 pub mod Usages
+pub mod Performing
+pub mod Turns
 pub mod Runs
 pub mod Lines
+pub mod Through
 pub mod Leading
 pub mod Mapping
 pub mod Examples

@@ -1,7 +1,7 @@
 -- The run to its end, and the outcome of a hand-over: document 01's flatten.
 -- Assumes nothing.
 use Prim.Native.Nat.{ℕ, zero, suc, _+_, _-_, _*_, max}
-use mathlib.Core.Bool.{Bool, true, cond}
+use mathlib.Core.Bool.{true, cond}
 use mathlib.Core.List.{List, [], _∷_, _++_}
 use lib.Dec.{eqb}
 use lib.ListN.{length}
@@ -15,7 +15,7 @@ use Rattle.copying.specs.Cursors.{opening}
 use Rattle.handover.specs.Entries.{bodyOf}
 use Rattle.handover.specs.Sizes.{HandOver, Rooms, isSound}
 use Rattle.turns.specs.States.{Context, Frame, State, Made, Turn, more, stop, finished}
-use Rattle.turns.specs.Usages.{turnAt}
+use Rattle.turns.specs.Turns.{turnAt}
 
 -- from here on: what is written, the replacements, the deepest set; the refusal (0: none) with file and byte; the macros and
 -- the directive state at the end

@@ -23,7 +23,7 @@ returns-3 : tie.Need-returns-3
 returns-3 c = let a = c .before .before .before .before .before .before .before .before .args in enter-deep _ (a .table .now) _ _ _ (a .depth) (a .l) _ _ (c .before .before .entry-of .result) (sym (c .before .before .before .before .is-barred .ensures) ∙ c .before .before .before .if1 .left) (c .before .before .entry-of .ensures) (omega (arith, c .before .if2 .left)) (omega (arith, c .if3 .taken))
 
 returns-4 : tie.Need-returns-4
-returns-4 c = let a = c .before .before .before .before .before .before .before .before .args in enter-into _ (a .table .now) _ _ _ (a .depth) (a .l) _ _ (c .before .before .entry-of .result) (c .before .before .before .before .before .before .before .before .pre) (sym (c .before .before .before .before .is-barred .ensures) ∙ c .before .before .before .if1 .left) (c .before .before .entry-of .ensures) (omega (arith, c .before .if2 .left)) (omega (arith, c .if3 .left))
+returns-4 c = let a = c .before .before .before .before .before .before .before .before .args in enter-into _ (a .table .now) _ _ _ (a .depth) (a .l) _ _ (c .before .before .entry-of .result) (sym (c .before .before .before .before .is-barred .ensures) ∙ c .before .before .before .if1 .left) (c .before .before .entry-of .ensures) (omega (arith, c .before .if2 .left)) (c .before .before .before .before .before .before .before .before .pre) (omega (arith, c .if3 .left))
 
 pub enter-spec : {M : Type 1} → statement M
 enter-spec =

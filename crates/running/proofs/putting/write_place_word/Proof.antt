@@ -1,9 +1,11 @@
 -- `running::putting::write_place_word` meets its contract.
 -- Assumes nothing.
+use mathlib.Core.Path.{ap}
 use native.Mathlib.Omega.{arith}
+use Rattle.turns.specs.Performing.{perform}
 use borrow.Author.Needs.{needs}
 use Rattle.running.proofs.Going.{refuses}
-use Rattle.running.proofs.Taking.{as-turn, file-written, line-written, refused-at}
+use Rattle.running.proofs.Taking.{as-act, file-written, line-written, refused-at}
 use Rattle.running.proofs.Usages.{name-fits, front-is}
 use Rattle.running.proofs.putting.write_place_word.Statement.{statement}
 use Rattle.running.proofs.putting.write_place_word.Tie as tie
@@ -30,7 +32,7 @@ same-length-3 : tie.Need-same-length-3
 same-length-3 c = search needs
 
 returns : tie.Need-returns
-returns c = λ x ms set limit bs rs fr cd f a o h. as-turn (c .before .before .before .before .write-word .result) _ _ _ _ _ ms _ _ _ (file-written limit ms (c .before .before .before .before .before .before .before .before .before .before .before .before .before .before .before .before .before .before .before .before .before .args .z) f (c .before .before .before .before .before .before .before .before .before .before .before .before .before .before .before .before .before .before .before .before .before .args .d) _ _ (c .before .before .before .before .before .before .before .before .before .before .before .before .before .before .if1 .taken) (c .before .before .before .before .before .before .before .before .before .before .before .before .before .name-at .ensures) (front-is _ (c .before .before .before .before .before .before .before .before .before .before .before .quote .result) _ _ (c .before .before .before .before .before .before .before .before .before .before .before .quote .ensures .0) (c .before .before .before .before .before .before .before .part-of .ensures))) (c .before .before .before .before .write-word .ensures x ms _ _ set limit bs rs fr cd f a o h)
+returns c = λ x ms set limit bs rs fr cd f a o h. as-act (c .before .before .before .before .write-word .result) _ _ _ _ _ ms _ _ (file-written limit ms (c .before .before .before .before .before .before .before .before .before .before .before .before .before .before .before .before .before .before .before .before .before .args .z) f (c .before .before .before .before .before .before .before .before .before .before .before .before .before .before .before .before .before .before .before .before .before .args .d) _ _ (c .before .before .before .before .before .before .before .before .before .before .before .before .before .before .if1 .taken) (c .before .before .before .before .before .before .before .before .before .before .before .before .before .name-at .ensures) (front-is _ (c .before .before .before .before .before .before .before .before .before .before .before .quote .result) _ _ (c .before .before .before .before .before .before .before .before .before .before .before .quote .ensures .0) (c .before .before .before .before .before .before .before .part-of .ensures))) (c .before .before .before .before .write-word .ensures x ms _ _ set limit bs rs fr cd f a o h)
 
 write-digits-requires : tie.Need-write-digits-requires
 write-digits-requires c κs = search needs
@@ -51,13 +53,13 @@ same-length-6 : tie.Need-same-length-6
 same-length-6 c = search needs
 
 returns-2 : tie.Need-returns-2
-returns-2 c = λ x ms set limit bs rs fr cd f a o h. as-turn (c .before .before .before .before .write-word2 .result) _ _ _ _ _ ms _ _ _ (line-written limit ms (c .before .before .before .before .before .before .before .before .before .before .before .before .before .before .before .before .before .before .before .before .before .before .args .z) f (c .before .before .before .before .before .before .before .before .before .before .before .before .before .before .before .before .before .before .before .before .before .before .args .d) _ (c .before .before .before .before .before .before .before .before .before .before .before .before .before .before .before .if1 .left) (c .before .before .before .before .before .before .before .before .before .before .before .before .before .before .if2 .taken) (front-is _ (c .before .before .before .before .before .before .before .before .before .before .before .write-digits .result) _ _ (c .before .before .before .before .before .before .before .before .before .before .before .write-digits .ensures .0) (c .before .before .before .before .before .before .before .part-of2 .ensures))) (c .before .before .before .before .write-word2 .ensures x ms _ _ set limit bs rs fr cd f a o h)
+returns-2 c = λ x ms set limit bs rs fr cd f a o h. as-act (c .before .before .before .before .write-word2 .result) _ _ _ _ _ ms _ _ (line-written limit ms (c .before .before .before .before .before .before .before .before .before .before .before .before .before .before .before .before .before .before .before .before .before .before .args .z) f (c .before .before .before .before .before .before .before .before .before .before .before .before .before .before .before .before .before .before .before .before .before .before .args .d) _ (c .before .before .before .before .before .before .before .before .before .before .before .before .before .before .before .if1 .left) (c .before .before .before .before .before .before .before .before .before .before .before .before .before .before .if2 .taken) (front-is _ (c .before .before .before .before .before .before .before .before .before .before .before .write-digits .result) _ _ (c .before .before .before .before .before .before .before .before .before .before .before .write-digits .ensures .0) (c .before .before .before .before .before .before .before .part-of2 .ensures))) (c .before .before .before .before .write-word2 .ensures x ms _ _ set limit bs rs fr cd f a o h)
 
 refuse-requires : tie.Need-refuse-requires
 refuse-requires c κs = search needs
 
 returns-3 : tie.Need-returns-3
-returns-3 c = λ x ms set limit bs rs fr cd f a o h. refuses _ _ _ _ ms (c .before .before .before .before .before .before .before .before .before .args .z) (c .refuse .result) 7 _ _ (c .refuse .ensures) (λ q. omega arith) (refused-at limit ms (c .before .before .before .before .before .before .before .before .before .args .z) f (c .before .before .before .before .before .before .before .before .before .args .d) (c .before .before .if1 .left) (c .before .if2 .left) a) h
+returns-3 c = λ x ms set limit bs rs fr cd f a o h. refuses _ _ _ _ ms (c .before .before .before .before .before .before .before .before .before .args .z) (c .refuse .result) 7 _ _ (c .refuse .ensures) (omega arith) (ap (perform _) (refused-at limit ms (c .before .before .before .before .before .before .before .before .before .args .z) f (c .before .before .before .before .before .before .before .before .before .args .d) (c .before .before .if1 .left) (c .before .if2 .left) a)) h
 
 pub write-place-word-spec : {M : Type 1} → statement M
 write-place-word-spec =

@@ -1,7 +1,7 @@
 -- `running::tokens::take` meets its contract.
 -- Assumes nothing.
 use Rattle.running.proofs.Going.{body-here, token-at-here}
-use Rattle.running.proofs.Taking.{as-turn, reads-at, file-small, place-lent, usage-lent, define-ready, taken-usage, taken-define, taken-undef, taken-all, taken-include, taken-keep, taken-place}
+use Rattle.running.proofs.Taking.{as-act, reads-at, file-small, place-lent, usage-lent, define-ready, taken-usage, taken-define, taken-undef, taken-all, taken-include, taken-keep, taken-place}
 use borrow.Author.Needs.{needs}
 use Rattle.running.proofs.tokens.take.Statement.{statement}
 use Rattle.running.proofs.tokens.take.Tie as tie
@@ -43,7 +43,7 @@ same-length-11 : tie.Need-same-length-11
 same-length-11 c = search needs
 
 returns : tie.Need-returns
-returns c = λ x ms cd f a o h. as-turn ((c .before .before .before .before .before .before .before .before .before .before .before .before .before .before .before .usage) .result) _ _ _ _ _ ms _ _ _ (taken-usage _ _ ((c .before .before .before .before .before .before .before .before .before .before .before .before .before .before .before .before .before .before .before .before .before .before .before .before .before .before .before .if1) .taken)) ((c .before .before .before .before .before .before .before .before .before .before .before .before .before .before .before .usage) .ensures x ms _ _ cd f a o h)
+returns c = λ x ms cd f a o h. as-act ((c .before .before .before .before .before .before .before .before .before .before .before .before .before .before .before .usage) .result) _ _ _ _ _ ms _ _ (taken-usage _ _ ((c .before .before .before .before .before .before .before .before .before .before .before .before .before .before .before .before .before .before .before .before .before .before .before .before .before .before .before .if1) .taken)) ((c .before .before .before .before .before .before .before .before .before .before .before .before .before .before .before .usage) .ensures x ms _ _ cd f a o h)
 
 define-requires : tie.Need-define-requires
 define-requires c κs = (define-ready ((c .before .before .before .before .before .before .before .before .before .before .before .before .before .before .before .before .before .before) .pre .0) ((c .before .before .before .before .before .before .before .before .before .before .before .before .before .before .before .before .before .before) .pre .1) ((c .before .before .before .before .before .before .before .before .before .before .before .before .before .before .before .before .before .before) .pre .2), reads-at ((c .before .before .before .before .before .before .before .before .before .before .before .before .before .before .before .before .before .before) .pre .0) ((c .before .before .before .before .before .before .before .before .before .before .before .before .before .before .before .before .before .before) .pre .1))
@@ -64,7 +64,7 @@ same-length-16 : tie.Need-same-length-16
 same-length-16 c = search needs
 
 returns-2 : tie.Need-returns-2
-returns-2 c = λ x ms cd f a o h. as-turn ((c .before .before .before .before .before .before .before .before .before .define) .result) _ _ _ _ _ ms _ _ _ (taken-define _ _ ((c .before .before .before .before .before .before .before .before .before .before .before .before .before .before .before .before .if1) .left) (body-here f a) (token-at-here f a) ((c .before .before .before .before .before .before .before .before .before .before .before .before .before .before .before .if2) .taken)) ((c .before .before .before .before .before .before .before .before .before .define) .ensures x ms _ _ _ _ _ _ _ cd f a o h)
+returns-2 c = λ x ms cd f a o h. as-act ((c .before .before .before .before .before .before .before .before .before .define) .result) _ _ _ _ _ ms _ _ (taken-define _ _ ((c .before .before .before .before .before .before .before .before .before .before .before .before .before .before .before .before .if1) .left) (body-here f a) (token-at-here f a) ((c .before .before .before .before .before .before .before .before .before .before .before .before .before .before .before .if2) .taken)) ((c .before .before .before .before .before .before .before .before .before .define) .ensures x ms _ _ _ _ _ _ _ cd f a o h)
 
 undef-requires : tie.Need-undef-requires
 undef-requires c κs = ((c .before .before .before .before .before .before .before .before .before .before .before .before .before .before .before .before) .pre .0 .going .bytes-small, (c .before .before .before .before .before .before .before .before .before .before .before .before .before .before .before .before) .pre .0 .going .stored, reads-at ((c .before .before .before .before .before .before .before .before .before .before .before .before .before .before .before .before) .pre .0) ((c .before .before .before .before .before .before .before .before .before .before .before .before .before .before .before .before) .pre .1))
@@ -76,7 +76,7 @@ same-length-18 : tie.Need-same-length-18
 same-length-18 c = search needs
 
 returns-3 : tie.Need-returns-3
-returns-3 c = λ x ms cd f a o h. as-turn ((c .before .before .before .undef) .result) _ _ _ _ _ ms _ _ _ (taken-undef _ _ ((c .before .before .before .before .before .before .before .before .if1) .left) ((c .before .before .before .before .before .before .before .if2) .left) ((c .before .before .before .before .before .before .if3) .taken)) ((c .before .before .before .undef) .ensures x ms _ _ _ _ _ _ _ cd f a o h)
+returns-3 c = λ x ms cd f a o h. as-act ((c .before .before .before .undef) .result) _ _ _ _ _ ms _ _ (taken-undef _ _ ((c .before .before .before .before .before .before .before .before .if1) .left) ((c .before .before .before .before .before .before .before .if2) .left) ((c .before .before .before .before .before .before .if3) .taken)) ((c .before .before .before .undef) .ensures x ms _ _ _ _ _ _ _ cd f a o h)
 
 undef-all-requires : tie.Need-undef-all-requires
 undef-all-requires c κs = ((c .before .before .before .before .before .before .before .before .before .before .before .before .before .before .before .before .before) .pre .0 .going .stored, reads-at ((c .before .before .before .before .before .before .before .before .before .before .before .before .before .before .before .before .before) .pre .0) ((c .before .before .before .before .before .before .before .before .before .before .before .before .before .before .before .before .before) .pre .1))
@@ -88,7 +88,7 @@ same-length-20 : tie.Need-same-length-20
 same-length-20 c = search needs
 
 returns-4 : tie.Need-returns-4
-returns-4 c = λ x ms cd f a o h. as-turn ((c .before .before .before .undef-all) .result) _ _ _ _ _ ms _ _ _ (taken-all _ _ ((c .before .before .before .before .before .before .before .before .before .if1) .left) ((c .before .before .before .before .before .before .before .before .if2) .left) ((c .before .before .before .before .before .before .before .if3) .left) (token-at-here f a) ((c .before .before .before .before .before .before .if4) .taken)) ((c .before .before .before .undef-all) .ensures x ms _ _ _ _ _ _ _ cd f a o h)
+returns-4 c = λ x ms cd f a o h. as-act ((c .before .before .before .undef-all) .result) _ _ _ _ _ ms _ _ (taken-all _ _ ((c .before .before .before .before .before .before .before .before .before .if1) .left) ((c .before .before .before .before .before .before .before .before .if2) .left) ((c .before .before .before .before .before .before .before .if3) .left) (token-at-here f a) ((c .before .before .before .before .before .before .if4) .taken)) ((c .before .before .before .undef-all) .ensures x ms _ _ _ _ _ _ _ cd f a o h)
 
 enter-requires : tie.Need-enter-requires
 enter-requires c κs = ((c .before .before .before .before .before .before .before .before .before .before .before .before .before .before .before .before .before) .pre .1 .open-file, (c .before .before .before .before .before .before .before .before .before .before .before .before .before .before .before .before .before) .pre .0 .going .ok .few-files, (c .before .before .before .before .before .before .before .before .before .before .before .before .before .before .before .before .before) .pre .0 .going .ok .frames-lent, reads-at ((c .before .before .before .before .before .before .before .before .before .before .before .before .before .before .before .before .before) .pre .0) ((c .before .before .before .before .before .before .before .before .before .before .before .before .before .before .before .before .before) .pre .1))
@@ -97,7 +97,7 @@ same-length-21 : tie.Need-same-length-21
 same-length-21 c = search needs
 
 returns-5 : tie.Need-returns-5
-returns-5 c = λ x ms cd f a o h. as-turn ((c .before .enter) .result) _ _ _ _ _ ms _ _ _ (taken-include _ _ ((c .before .before .before .before .before .before .before .if1) .left) ((c .before .before .before .before .before .before .if2) .left) ((c .before .before .before .before .before .if3) .left) ((c .before .before .before .before .if4) .left) (body-here f a) (token-at-here f a) ((c .before .before .before .if5) .taken)) ((c .before .enter) .ensures x ms _ _ _ _ _ _ cd f a o h)
+returns-5 c = λ x ms cd f a o h. as-act ((c .before .enter) .result) _ _ _ _ _ ms _ _ (taken-include _ _ ((c .before .before .before .before .before .before .before .if1) .left) ((c .before .before .before .before .before .before .if2) .left) ((c .before .before .before .before .before .if3) .left) ((c .before .before .before .before .if4) .left) (body-here f a) (token-at-here f a) ((c .before .before .before .if5) .taken)) ((c .before .enter) .ensures x ms _ _ _ _ _ _ cd f a o h)
 
 keep-on-requires : tie.Need-keep-on-requires
 keep-on-requires c κs = (file-small ((c .before .before .before .before .before .before .before .before .before .before .before .before .before .before .before .before .before .before .before) .pre .0) ((c .before .before .before .before .before .before .before .before .before .before .before .before .before .before .before .before .before .before .before) .pre .1), (c .before .before .before .before .before .before .before .before .before .before .before .before .before .before .before .before .before .before .before) .pre .0 .going .ok .copyable .in-text, (c .before .before .before .before .before .before .before .before .before .before .before .before .before .before .before .before .before .before .before) .pre .0 .going .ok .copyable .in-map, reads-at ((c .before .before .before .before .before .before .before .before .before .before .before .before .before .before .before .before .before .before .before) .pre .0) ((c .before .before .before .before .before .before .before .before .before .before .before .before .before .before .before .before .before .before .before) .pre .1))
@@ -109,7 +109,7 @@ same-length-23 : tie.Need-same-length-23
 same-length-23 c = search needs
 
 returns-6 : tie.Need-returns-6
-returns-6 c = λ x ms cd f a o h. as-turn ((c .before .before .before .before .keep-on) .result) _ _ _ _ _ ms _ _ _ (taken-keep _ _ ((c .before .before .before .before .before .before .before .before .before .before .before .before .if1) .left) ((c .before .before .before .before .before .before .before .before .before .before .before .if2) .left) ((c .before .before .before .before .before .before .before .before .before .before .if3) .left) ((c .before .before .before .before .before .before .before .before .before .if4) .left) ((c .before .before .before .before .before .before .before .before .if5) .left) ((c .before .before .before .before .before .before .before .if6) .taken)) ((c .before .before .before .before .keep-on) .ensures x ms _ _ _ _ _ _ cd f a o h)
+returns-6 c = λ x ms cd f a o h. as-act ((c .before .before .before .before .keep-on) .result) _ _ _ _ _ ms _ _ (taken-keep _ _ ((c .before .before .before .before .before .before .before .before .before .before .before .before .if1) .left) ((c .before .before .before .before .before .before .before .before .before .before .before .if2) .left) ((c .before .before .before .before .before .before .before .before .before .before .if3) .left) ((c .before .before .before .before .before .before .before .before .before .if4) .left) ((c .before .before .before .before .before .before .before .before .if5) .left) ((c .before .before .before .before .before .before .before .if6) .taken)) ((c .before .before .before .before .keep-on) .ensures x ms _ _ _ _ _ _ cd f a o h)
 
 write-place-word-requires : tie.Need-write-place-word-requires
 write-place-word-requires c κs = place-lent (c .before .before .before .before .before .before .before .before .before .before .before .before .before .before .before .before .before .before .before .before .before .pre .0) (c .before .before .before .before .before .before .before .before .before .before .before .before .before .before .before .before .before .before .before .before .before .pre .1) (c .before .before .before .before .before .before .before .before .before .before .before .before .before .before .before .before .before .before .before .before .before .pre .2)
@@ -127,7 +127,7 @@ same-length-27 : tie.Need-same-length-27
 same-length-27 c = search needs
 
 returns-7 : tie.Need-returns-7
-returns-7 c = λ x ms cd f a o h. as-turn (c .before .before .before .before .before .before .before .before .write-place-word .result) _ _ _ _ _ ms _ _ _ (taken-place _ _ (c .before .before .before .before .before .before .before .before .before .before .before .before .before .before .before .before .before .before .if1 .left) (c .before .before .before .before .before .before .before .before .before .before .before .before .before .before .before .before .before .if2 .left) (c .before .before .before .before .before .before .before .before .before .before .before .before .before .before .before .before .if3 .left) (c .before .before .before .before .before .before .before .before .before .before .before .before .before .before .before .if4 .left) (c .before .before .before .before .before .before .before .before .before .before .before .before .before .before .if5 .left) (c .before .before .before .before .before .before .before .before .before .before .before .before .before .if6 .left)) (c .before .before .before .before .before .before .before .before .write-place-word .ensures x ms _ _ _ _ _ cd f a o h)
+returns-7 c = λ x ms cd f a o h. as-act (c .before .before .before .before .before .before .before .before .write-place-word .result) _ _ _ _ _ ms _ _ (taken-place _ _ (c .before .before .before .before .before .before .before .before .before .before .before .before .before .before .before .before .before .before .if1 .left) (c .before .before .before .before .before .before .before .before .before .before .before .before .before .before .before .before .before .if2 .left) (c .before .before .before .before .before .before .before .before .before .before .before .before .before .before .before .before .if3 .left) (c .before .before .before .before .before .before .before .before .before .before .before .before .before .before .before .if4 .left) (c .before .before .before .before .before .before .before .before .before .before .before .before .before .before .if5 .left) (c .before .before .before .before .before .before .before .before .before .before .before .before .before .if6 .left)) (c .before .before .before .before .before .before .before .before .write-place-word .ensures x ms _ _ _ _ _ cd f a o h)
 
 pub take-spec : {M : Type 1} → statement M
 take-spec =

@@ -3,7 +3,6 @@ pub mod Files
 pub mod GrowingUsages
 pub mod GrowingTurns
 pub mod Growing
-pub mod RefusedReplacing
 pub mod RefusedUsages
 pub mod RefusedTurns
 pub mod Stretches

@@ -15,21 +15,21 @@ use Rattle.names.specs.Names.{Define}
 use Rattle.definition.specs.Definitions.{Macro, good, definitionAt}
 use Rattle.store.specs.Stores.{define, fits}
 use Rattle.settings.specs.declared.Settings.{Settings}
-use Rattle.writing.specs.Written.{Written, Put, full, fitted, putIn}
+use Rattle.writing.specs.Written.{Written}
 use Rattle.places.specs.Places.{decimal, placeOf, quoted}
-use Rattle.blocks.specs.Blocks.{Conditional}
 use Rattle.copying.specs.Cursors.{opening, cursorPast, cursorBehind}
 use Rattle.expand.specs.Expanding.{Outer, expand}
 use Rattle.handover.specs.Entries.{nameOf as entryNamed}
 use Rattle.handover.specs.Sizes.{HandOver, Rooms, isSound}
-use Rattle.turns.specs.States.{Context, Frame, State, Turn, more, stop, finished, Here, framesAt, behind, onPut, write}
+use Rattle.turns.specs.States.{Context, Frame, State, Turn, more, stop, finished, Here, framesAt, behind, write}
 use Rattle.turns.specs.States as states
 use Rattle.turns.specs.Acts.{Act, nameIn}
 use Rattle.turns.specs.Asking.{Named, Remain, all-but, no-more, Spelled, file-name, line-number, Asks, to-refuse, to-leave, to-copy, to-skip, to-hide, to-branch, to-define, to-undefine, to-include, to-keep, to-spell, to-expand}
 use Rattle.turns.specs.Usages.{outerOf, usageEnd, expandHere}
 use Rattle.turns.specs.Performing.{perform}
-use Rattle.turns.specs.Turns.{lastTurn, hereAt, frameTurn, turnAt}
+use Rattle.turns.specs.Turns.{hereAt, turnAt}
 use Rattle.turns.specs.Runs.{contextOf, startOf, Outcome, flattened}
+use Rattle.turns.proofs.Turning.{by-turn, by-write}
 use Rattle.turns.proofs.Asking.{act-asks}
 use Rattle.turns.proofs.Lines.{Reads, Framed, turn-framed, start-framed}
 use Rattle.claims.specs.Files.{fileOf, tokenIn, Read}
@@ -149,13 +149,9 @@ module _ (x : Context) (s : State) (f : Frame) (fs : List Frame) (r : Reads x f)
 
   -- the acts
 
-  put-keeps : (ws : List Written) (gs : List Frame) (b : Settings) (p : Put) → Each (Ended x) gs → Keeps x (onPut here ws gs b p)
-  unfolding Keeps
-  put-keeps ws gs b (full n) h = tt
-  put-keeps ws gs b (fitted m) h = (h, k)
-
   write-keeps : (ws : List Written) (gs : List Frame) (b : Settings) → Each (Ended x) gs → Keeps x (write here ws gs b)
-  write-keeps ws gs b h = put-keeps ws gs b (putIn (s .room) ws) h
+  unfolding Keeps
+  write-keeps ws gs b h = by-write here (Keeps x) ws gs b (λ n e. tt) (λ m e. (h, k))
 
   act-keeps : {a : Act} → Asks here a → Keeps x (perform here a)
   unfolding Keeps Ended
@@ -193,20 +189,18 @@ module _ (x : Context) (s : State) (f : Frame) (fs : List Frame) (r : Reads x f)
 -- ---- a run
 
 module _ (x : Context) where
-  last-keeps : (cs : List Conditional) → Keeps x (lastTurn cs)
-  unfolding Keeps
-  last-keeps [] = tt
-  last-keeps (c ∷ cs) = tt
-
-  frame-keeps : (s : State) (fs : List Frame) → Framed x fs → Each (Ended x) fs → AllKnown x (s .macros) → Keeps x (frameTurn x s fs)
-  unfolding Framed Each
-  frame-keeps s [] h c k = last-keeps (s .conds)
-  frame-keeps s (f ∷ fs) h c k = act-keeps x s f fs (h .0) (c .0) (c .1) k (act-asks x s f fs)
+  turn-keeps : (s : State) → Stands x s → Keeps x (turnAt x s)
+  unfolding Keeps Framed Each
+  turn-keeps s h =
+      by-turn x s (Keeps x) (λ q e. tt) (λ c cs e. tt)
+      (λ f fs q. let g : Framed x (f ∷ fs) = subst (Framed x) q (h .framed) in
+      let c : Each (Ended x) (f ∷ fs) = subst (Each (Ended x)) q (h .ended) in
+      act-keeps x s f fs (g .0) (c .0) (c .1) (h .known) (act-asks x s f fs))
 
   turn-stands : (s s′ : State) (m : states.Made) → Stands x s → turnAt x s ≡ more s′ m → Stands x s′
-  unfolding Keeps turnAt
+  unfolding Keeps
   turn-stands s s′ m h e =
-      let k : Keeps x (more s′ m) = subst (Keeps x) e (frame-keeps s (s .frames) (h .framed) (h .ended) (h .known)) in
+      let k : Keeps x (more s′ m) = subst (Keeps x) e (turn-keeps s h) in
       record { framed = turn-framed x s s′ m e (h .framed); ended = k .0; known = k .1 }
 
   -- the act of a state writes pieces

@@ -17,20 +17,21 @@ use Rattle.names.specs.Names.{Ifdef, Ifndef}
 use Rattle.directive.specs.Include.{includeAt}
 use Rattle.store.specs.Stores.{define, fits}
 use Rattle.settings.specs.declared.Settings.{Settings}
-use Rattle.writing.specs.Written.{Written, Put, full, fitted, putIn}
+use Rattle.writing.specs.Written.{Written, full}
 use Rattle.blocks.specs.Blocks.{Conditional, openBlock, nextBlock, closeBlock}
 use Rattle.expand.specs.Expanding.{Expansion}
 use Rattle.handover.specs.Entries.{bodyOf}
 use Rattle.handover.specs.Sizes.{HandOver, Rooms, isSound}
-use Rattle.turns.specs.States.{Context, Frame, State, Turn, more, stop, finished, Here, refuse, refuseAt, onPut, write}
+use Rattle.turns.specs.States.{Context, Frame, State, nothing, Turn, more, stop, finished, Here, refuse, refuseAt, write}
 use Rattle.turns.specs.Acts.{Act}
 use Rattle.turns.specs.Usages.{outerOf, usagePlace, expandHere, usageTurn}
 use Rattle.turns.specs.Performing.{perform}
-use Rattle.turns.specs.Turns.{lastTurn, hereAt, frameTurn, turnAt}
+use Rattle.turns.specs.Turns.{hereAt, turnAt}
 use Rattle.turns.specs.Through.{Through, start, next}
 use Rattle.turns.specs.Runs.{contextOf, startOf}
 use Rattle.turns.proofs.Lines.{Reads, Framed, through-framed, start-framed}
 use Rattle.turns.specs.Asking.{Named, Refusal, of-token, of-form, of-definition, of-line, of-rule, Opens, by-ifdef, by-ifndef, by-elsif, by-else, by-endif, Asks, to-refuse, to-leave, to-copy, to-skip, to-hide, to-branch, to-define, to-undefine, to-include, to-keep, to-spell, to-expand}
+use Rattle.turns.proofs.Turning.{by-turn, by-write}
 use Rattle.turns.proofs.Asking.{act-asks}
 use Rattle.claims.specs.Files.{Accented}
 use Rattle.claims.specs.NothingDropped.{Opener}
@@ -124,13 +125,11 @@ module _ (x : Context) (s : State) (f : Frame) (fs : List Frame) (r : Reads x f)
 
   -- ---- the acts
 
-  put-good : (ws : List Written) (gs : List Frame) (c : Settings) (p : Put) → PutBars p → Good (onPut here ws gs c p)
-  unfolding TurnIn PutBars
-  put-good ws gs c (full n) h = refuse-here n (h .0) (h .1)
-  put-good ws gs c (fitted m) h = cs
-
   write-good : (ws : List Written) (gs : List Frame) (c : Settings) → Good (write here ws gs c)
-  write-good ws gs c = put-good ws gs c (putIn (s .room) ws) (put-bars (s .room) ws)
+  unfolding TurnIn PutBars
+  write-good ws gs c =
+      by-write here Good ws gs c (λ n e. let b : PutBars (full n) = subst PutBars e (put-bars (s .room) ws) in refuse-here n (b .0) (b .1))
+      (λ m e. cs)
 
   opens-in : (d e : ℕ) (o : Option (List Conditional)) → Named here d → Opens here d e o → OpenIn x o
   opens-in d e o a (by-ifdef v q i) = open-in x (f .file) (token .at) _ (s .conds) d (accented-at x s f fs r a) (rw q) cs
@@ -171,21 +170,17 @@ module _ (x : Context) (s : State) (f : Frame) (fs : List Frame) (r : Reads x f)
   act-good (to-expand a t) = usage-good
 
 module _ (x : Context) where
-  last-good : (cs : List Conditional) → CondsIn x cs → TurnIn x (lastTurn cs)
+  unclosed-good : (c : Conditional) (cs : List Conditional) → CondsIn x (c ∷ cs) → TurnIn x (stop 8 (c .file) (c .byte) nothing)
   unfolding CondsIn TurnIn
-  last-good [] h = tt
-  last-good (c ∷ cs) h =
+  unclosed-good c cs h =
       let a = h .0 .accented .read in
       record { low = omega arith; high = omega arith; spot = record { file-in = a .file-in; inside = omega (arith, a .inside) } }
 
-  frame-good : (s : State) (fs : List Frame) → Framed x fs → CondsIn x (s .conds) → TurnIn x (frameTurn x s fs)
-  unfolding Framed
-  frame-good s [] h g = last-good (s .conds) g
-  frame-good s (f ∷ fs) h g = act-good x s f fs (h .0) g (act-asks x s f fs)
-
   pub turn-good : (s : State) → Framed x (s .frames) → CondsIn x (s .conds) → TurnIn x (turnAt x s)
-  unfolding turnAt
-  turn-good s h g = frame-good s (s .frames) h g
+  unfolding Framed TurnIn
+  turn-good s h g =
+      by-turn x s (TurnIn x) (λ q k. tt) (λ c cs k. unclosed-good c cs (subst (CondsIn x) k g))
+      (λ f fs q. let e : Framed x (f ∷ fs) = subst (Framed x) q h in act-good x s f fs (e .0) g (act-asks x s f fs))
 
   -- ---- the run
 

@@ -14,17 +14,18 @@ use Rattle.lex.proofs.Progress.{token-some}
 use Rattle.store.specs.Stores.{define, fits}
 use Rattle.settings.specs.declared.Settings.{Settings}
 use Rattle.definition.specs.Definitions.{Macro}
-use Rattle.writing.specs.Written.{Written, textOf, Put, full, fitted, putIn}
+use Rattle.writing.specs.Written.{Written, textOf}
 use Rattle.writing.proofs.Laws.{text-placed}
 use Rattle.blocks.specs.Blocks.{Conditional}
 use Rattle.copying.specs.Cursors.{opening, cursorPast, cursorBehind}
-use Rattle.turns.specs.States.{Context, Frame, State, Made, Turn, more, stop, finished, Here, framesAt, goTo, onPut, write}
+use Rattle.turns.specs.States.{Context, Frame, State, Made, Turn, more, stop, finished, Here, framesAt, goTo, write}
 use Rattle.turns.specs.States as states
 use Rattle.turns.specs.Acts.{Act, leaves, actAt}
 use Rattle.turns.specs.Asking.{Reading, EndsAt, Asks, to-refuse, to-leave, to-copy, to-skip, to-hide, to-branch, to-define, to-undefine, to-include, to-keep, to-spell, to-expand}
 use Rattle.turns.specs.Usages.{usageEnd, expandHere}
 use Rattle.turns.specs.Performing.{perform}
-use Rattle.turns.specs.Turns.{lastTurn, hereAt, frameTurn, turnAt}
+use Rattle.turns.specs.Turns.{hereAt, turnAt}
+use Rattle.turns.proofs.Turning.{by-turn, by-write}
 use Rattle.turns.proofs.Asking.{usage-ends, act-asks}
 use Rattle.claims.specs.Files.{fileOf}
 use Rattle.claims.specs.Stretches.{takenTo, writtenBy, openFile, OpenFile, Acted, Behind, on, into, Stretch, Leaving}
@@ -55,16 +56,12 @@ module _ (x : Context) (s : State) (f : Frame) (fs : List Frame) (q : s .frames 
     taken-to r {b} e i s′ m o v g =
         takes (record { acted = acted s′ m v g; from = refl; to = e; some-bytes = omega (arith, r .past, i .past); inside = i .within; behind = o })
 
-    put-does : Reading here → {b : ℕ} → takenTo here a ≡ b → EndsAt here b → (ws : List Written) (gs : List Frame) (c : Settings) (k : Put)
-        → Behind (openFile f fs) b gs → writtenBy here a ≡ textOf ws → Does x s (onPut here ws gs c k)
-    unfolding Does textOf
-    put-does r e i ws gs c (full n) o v = nothing
-    put-does r e i ws gs c (fitted k) o v = λ g. taken-to r e i _ (states.writes ws) o v g
-
     -- what writes
     write-does : Reading here → {b : ℕ} → takenTo here a ≡ b → EndsAt here b → (ws : List Written) (gs : List Frame) (c : Settings)
         → Behind (openFile f fs) b gs → writtenBy here a ≡ textOf ws → Does x s (write here ws gs c)
-    write-does r e i ws gs c o v = put-does r e i ws gs c (putIn (s .room) ws) o v
+    unfolding Does textOf
+    write-does r e i ws gs c o v =
+        by-write here (Does x s) ws gs c (λ n k. nothing) (λ m k. λ g. taken-to r e i _ (states.writes ws) o v g)
 
     -- what writes nothing
     go-does : Reading here → {b : ℕ} → takenTo here a ≡ b → EndsAt here b → (gs : List Frame) (cs : List Conditional) (ms : List Macro)
@@ -102,17 +99,17 @@ module _ (x : Context) (s : State) (f : Frame) (fs : List Frame) (q : s .frames 
       → writtenBy here leaves ≡ textOf (m .text) → turnAt x s ≡ more s′ m → Step x s s′ (textOf (m .text))
   leave-to w p e s′ m o v g = departs (record { acted = acted w p s′ m v g; act-is = refl; at-end = end-length e; behind = o })
 
-  leave-does : (w : Asks here leaves) → actAt here ≡ leaves → is End (here .token) ≡ true → (ws : List Written) (k : Put)
-      → writtenBy here leaves ≡ textOf ws → Does x s (onPut here ws fs (s .settings) k)
+  leave-does : (w : Asks here leaves) → actAt here ≡ leaves → is End (here .token) ≡ true → (ws : List Written)
+      → writtenBy here leaves ≡ textOf ws → Does x s (write here ws fs (s .settings))
   unfolding Does textOf
-  leave-does w p e ws (full n) v = nothing
-  leave-does w p e ws (fitted k) v = λ g. leave-to w p e _ (states.writes ws) refl v g
+  leave-does w p e ws v =
+      by-write here (Does x s) ws fs (s .settings) (λ n k. nothing) (λ m k. λ g. leave-to w p e _ (states.writes ws) refl v g)
 
   act-does : {a : Act} → Asks here a → actAt here ≡ a → Does x s (perform here a)
   unfolding Does textOf
   act-does (to-refuse w) p = nothing
   act-does (to-leave b e) p =
-      by-test (Does x s) (f .cursor .comment) (λ c. leave-does (to-leave b e) p e _ (putIn (s .room) _) (rw c (sym (text-placed 1 _ (10 ∷ [])))))
+      by-test (Does x s) (f .cursor .comment) (λ c. leave-does (to-leave b e) p e _ (rw c (sym (text-placed 1 _ (10 ∷ [])))))
       (λ c. λ g. leave-to (to-leave b e) p e _ states.nothing refl (rw c) g)
   act-does (to-copy r t g) p = write-does (to-copy r t g) p r refl (token-ends r) _ _ _ (past-on true) (sym (text-placed 1 _ _))
   act-does (to-skip r t) p = go-does (to-skip r t) p r refl (token-ends r) _ _ _ (past-on false) refl
@@ -130,18 +127,9 @@ module _ (x : Context) (s : State) (f : Frame) (fs : List Frame) (q : s .frames 
       (λ k. λ g. taken-to (to-expand a t) p (a .reading) refl (usage-ends here (a .reading .within) k) _ _ (behind-on (usageEnd here)) refl g)
       (λ k. begun q p)
 
-module _ (x : Context) (s : State) where
-  last-does : (cs : List Conditional) → s .frames ≡ [] → s .conds ≡ cs → Does x s (lastTurn cs)
-  unfolding Does textOf
-  last-does [] q c = (q, c)
-  last-does (k ∷ cs) q c = nothing
-
-  frame-does : (gs : List Frame) → s .frames ≡ gs → ((f : Frame) (fs : List Frame) → gs ≡ f ∷ fs → f .cursor .at ≤ length (fileOf x (f .file)))
-      → Does x s (frameTurn x s gs)
-  frame-does [] q l = last-does (s .conds) q refl
-  frame-does (f ∷ fs) q l = act-does x s f fs q (l f fs refl) (act-asks x s f fs) refl
-
-  -- the turn of a state whose innermost cursor stands in its file
-  pub turn-does : ((f : Frame) (fs : List Frame) → s .frames ≡ f ∷ fs → f .cursor .at ≤ length (fileOf x (f .file))) → Does x s (turnAt x s)
-  unfolding turnAt
-  turn-does l = frame-does (s .frames) refl l
+-- the turn of a state whose innermost cursor stands in its file
+pub turn-does : (x : Context) (s : State) → ((f : Frame) (fs : List Frame) → s .frames ≡ f ∷ fs → f .cursor .at ≤ length (fileOf x (f .file)))
+    → Does x s (turnAt x s)
+unfolding Does textOf
+turn-does x s l =
+    by-turn x s (Does x s) (λ q e. (q, e)) (λ c cs e. nothing) (λ f fs q. act-does x s f fs q (l f fs q) (act-asks x s f fs) refl)

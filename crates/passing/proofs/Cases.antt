@@ -3,7 +3,7 @@
 use Prim.Native.Nat.{ℕ}
 use mathlib.Core.Bool.{Bool, true, false, _&&_}
 use mathlib.Core.List.{List, [], _∷_}
-use mathlib.Core.Path.{_≡_, refl}
+use mathlib.Core.Path.{_≡_}
 use lib.Dec.{eqb}
 use borrow.Author.Tests.{eq-eqb}
 use Rattle.lex.specs.Tokens.{Grave, is, nameOf}
@@ -12,14 +12,15 @@ use Rattle.names.specs.Names.{directiveOf}
 use Rattle.definition.specs.Definitions.{Macro, good, definitionAt}
 use Rattle.store.specs.Stores.{define, undefine, fits}
 use Rattle.settings.specs.declared.Settings.{Settings}
-use Rattle.writing.specs.Written.{Written, Room, Put, full, fitted, putIn}
+use Rattle.writing.specs.Written.{Written, Room, fitted}
 use Rattle.blocks.specs.Blocks.{Conditional, takenBy}
 use Rattle.turns.specs.States.{Context, Frame, State, nothing, Turn, stop, finished, Here, onPut, write, goTo, refuseAt}
 use Rattle.turns.specs.Acts.{Act, nameIn}
 use Rattle.turns.specs.Usages.{usageTurn}
 use Rattle.turns.specs.Performing.{perform}
-use Rattle.turns.specs.Turns.{lastTurn, hereAt, frameTurn, turnAt}
+use Rattle.turns.specs.Turns.{hereAt, turnAt}
 use Rattle.turns.specs.Asking.{Named, Remain, all-but, no-more, Asks, to-refuse, to-leave, to-copy, to-skip, to-hide, to-branch, to-define, to-undefine, to-include, to-keep, to-spell, to-expand}
+use Rattle.turns.proofs.Turning.{by-turn, by-write}
 use Rattle.turns.proofs.Asking.{act-asks}
 use Rattle.passing.specs.Meeting.{isMet}
 
@@ -45,12 +46,8 @@ module _ (h : Here) (P : Turn → Type 0) (k : Kinds h P) where
   go-is : (fs : List Frame) (cs : List Conditional) → P (goTo h fs cs (h .state .macros))
   go-is fs cs = k .goes fs cs (h .state .macros) same
 
-  put-is : (ws : List Written) (fs : List Frame) (c : Settings) (p : Put) → P (onPut h ws fs c p)
-  put-is ws fs c (full n) = k .refused _ _
-  put-is ws fs c (fitted r) = k .wrote ws fs c r
-
   write-is : (ws : List Written) (fs : List Frame) (c : Settings) → P (write h ws fs c)
-  write-is ws fs c = put-is ws fs c (putIn (h .state .room) ws)
+  write-is ws fs c = by-write h P ws fs c (λ n e. k .refused n (h .token .at)) (λ r e. k .wrote ws fs c r)
 
   remain-leave : (e : ℕ) (ms : List Macro) → Remain h e ms → Leaves h ms
   remain-leave e ms (all-but v a q) = undefined (nameIn v (h .body))
@@ -78,17 +75,7 @@ module _ (h : Here) (P : Turn → Type 0) (k : Kinds h P) where
   act-is (to-expand a t) = k .used (met a t)
 
 -- at the end of the files, or at a token
-module _ (P : Turn → Type 0) (over : P finished) (unclosed : (f p : ℕ) → P (stop 8 f p nothing)) where
-  last-is : (cs : List Conditional) → P (lastTurn cs)
-  last-is [] = over
-  last-is (c ∷ cs) = unclosed (c .file) (c .byte)
-
-  frame-is : (x : Context) (s : State) (gs : List Frame) → s .frames ≡ gs
-      → ((f : Frame) (fs : List Frame) → s .frames ≡ f ∷ fs → Kinds (hereAt x s f fs) P) → P (frameTurn x s gs)
-  frame-is x s [] q k = last-is (s .conds)
-  frame-is x s (f ∷ fs) q k = act-is (hereAt x s f fs) P (k f fs q) (act-asks x s f fs)
-
-  pub turn-is : (x : Context) (s : State) → ((f : Frame) (fs : List Frame) → s .frames ≡ f ∷ fs → Kinds (hereAt x s f fs) P)
-      → P (turnAt x s)
-  unfolding turnAt
-  turn-is x s k = frame-is x s (s .frames) refl k
+pub turn-is : (P : Turn → Type 0) → P finished → ((f p : ℕ) → P (stop 8 f p nothing)) → (x : Context) (s : State)
+    → ((f : Frame) (fs : List Frame) → s .frames ≡ f ∷ fs → Kinds (hereAt x s f fs) P) → P (turnAt x s)
+turn-is P over unclosed x s k =
+    by-turn x s P (λ q e. over) (λ c cs e. unclosed (c .file) (c .byte)) (λ f fs q. act-is (hereAt x s f fs) P (k f fs q) (act-asks x s f fs))

@@ -2,7 +2,6 @@ pub mod Going
 pub mod Writing
 pub mod Usages
 pub mod Taking
-pub mod Unfinished
 pub mod Halting
 pub mod Advancing
 pub mod Reaching

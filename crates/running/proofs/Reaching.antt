@@ -28,7 +28,7 @@ use Rattle.running.specs.declared.stage.Step.{Step}
 use Rattle.running.specs.Standing.{Bufs, bufs, outerFrames, hereOf, endedAt, reachedAt, Ok, Fixed, At, Performed, Going, GoingIn}
 use Rattle.running.specs.Ending.{AdvancedBy}
 use Rattle.running.proofs.Advancing.{Led, turn-here, stepped, read-led, advance-refused, fixed-on}
-use Rattle.running.proofs.Unfinished.{token-unfinished}
+use Rattle.turns.proofs.Unfinished.{token-unfinished}
 
 -- reading went from the stage z, in the file s, to r
 pub record Reaches (store : List ℕ) (table : List (List ℕ)) (B : Bufs) (z : Stage) (s : List ℕ) (r : Reached) (text′ map′ : List ℕ) (conds′ : List (List ℕ)) : Type 0 where

@@ -54,7 +54,7 @@ pub fault-barred : (s : List ℕ) (f : Fault) → FaultIn s f → eqb (f .number
 fault-barred s f h e = record { low = h .bars .least e; high = h .bars .most; place-in = h .place-in }
 
 -- the tokens of a text
-unfoldable pub TokensIn : List ℕ → List Token → Type 0
+TokensIn : List ℕ → List Token → Type 0
 TokensIn s [] = Unit {0}
 TokensIn s (t ∷ ts) = FaultIn s (faultOf t) × TokensIn s ts
 
@@ -65,7 +65,7 @@ module _ (s : List ℕ) where
   pub token-fault : (m : Mode) (i : ℕ) → i ≤ length s → FaultIn s (faultOf (tokenAt m s i))
   token-fault m i h = record { bars = token-bars s i m; place-in = omega (arith, token-at m s i) }
 
-  pub tokens-in : (m : Mode) (i : ℕ) → TokensIn s (tokens m s i)
+  tokens-in : (m : Mode) (i : ℕ) → TokensIn s (tokens m s i)
   unfolding TokensIn
   tokens-in m i =
       by-tokens s (λ (m : Mode) (j : ℕ) (ts : List Token). TokensIn s ts) (λ m j l. tt) (λ m j l q. tt)

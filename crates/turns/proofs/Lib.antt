@@ -3,7 +3,10 @@ pub mod Claims
 pub mod Inside
 pub mod Forms
 pub mod Definitions
+pub mod Replacing
 pub mod Usages
+pub mod Turning
+pub mod Unfinished
 pub mod Acts
 pub mod Asking
 pub mod Progress

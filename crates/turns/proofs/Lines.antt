@@ -15,20 +15,20 @@ use Rattle.lex.proofs.Tests.{by-test, and-left, and-right}
 use Rattle.lex.proofs.Progress.{Inside, token-at}
 use Rattle.store.specs.Stores.{define, fits}
 use Rattle.settings.specs.declared.Settings.{Settings}
-use Rattle.writing.specs.Written.{Written, placed, Put, full, fitted, putIn}
+use Rattle.writing.specs.Written.{Written, placed}
 use Rattle.places.specs.Places.{newlines, lineAt}
 use Rattle.places.proofs.Lines.{line-first, line-past}
-use Rattle.blocks.specs.Blocks.{Conditional}
 use Rattle.copying.specs.Cursors.{opening, cursorPast, cursorBehind}
 use Rattle.handover.specs.Entries.{bodyOf}
 use Rattle.handover.specs.Sizes.{HandOver, Rooms, isSound}
-use Rattle.turns.specs.States.{Context, Frame, State, Made, Turn, more, stop, finished, Here, framesAt, behind, onPut, write, placeHere}
+use Rattle.turns.specs.States.{Context, Frame, State, Made, Turn, more, stop, finished, Here, framesAt, behind, write, placeHere}
 use Rattle.turns.specs.Acts.{Act}
 use Rattle.turns.specs.Usages.{outerOf, usageEnd, expandHere}
 use Rattle.turns.specs.Performing.{perform}
-use Rattle.turns.specs.Turns.{lastTurn, hereAt, frameTurn, turnAt}
+use Rattle.turns.specs.Turns.{hereAt, turnAt}
 use Rattle.turns.specs.Through.{Through, start, next}
 use Rattle.turns.specs.Runs.{Run, follow, runFor, measure, runFrom, contextOf, startOf, Outcome, flattened}
+use Rattle.turns.proofs.Turning.{by-turn, by-write}
 use Rattle.turns.proofs.Inside.{inside-on, token-inside}
 use Rattle.turns.specs.Asking.{EndsAt, Asks, to-refuse, to-leave, to-copy, to-skip, to-hide, to-branch, to-define, to-undefine, to-include, to-keep, to-spell, to-expand}
 use Rattle.turns.proofs.Asking.{as-inside, usage-ends, act-asks}
@@ -106,13 +106,9 @@ module _ (x : Context) (s : State) (f : Frame) (fs : List Frame) (r : Reads x f)
 
   -- ---- the turns
 
-  put-fine : (ws : List Written) (gs : List Frame) (c : Settings) (p : Put) → Framed x gs → Placed x ws → Fine x (onPut here ws gs c p)
-  unfolding Fine Placed
-  put-fine ws gs c (full n) h k = tt
-  put-fine ws gs c (fitted m) h k = (h, k)
-
   write-fine : (ws : List Written) (gs : List Frame) (c : Settings) → Framed x gs → Placed x ws → Fine x (write here ws gs c)
-  write-fine ws gs c h k = put-fine ws gs c (putIn (s .room) ws) h k
+  unfolding Fine Placed
+  write-fine ws gs c h k = by-write here (Fine x) ws gs c (λ n e. tt) (λ m e. (h, k))
 
   -- a part from the token's start on
   part-placed : (e : ℕ) → Inside body (f .cursor .at) e → Placed x (placed 1 (placeHere here) (part body (token .at) e))
@@ -148,19 +144,11 @@ module _ (x : Context) (s : State) (f : Frame) (fs : List Frame) (r : Reads x f)
       (λ q. expand-fine)
 
 module _ (x : Context) where
-  last-fine : (cs : List Conditional) → Fine x (lastTurn cs)
-  unfolding Fine Placed
-  last-fine [] = tt
-  last-fine (c ∷ cs) = tt
-
-  frame-fine : (s : State) (fs : List Frame) → Framed x fs → Fine x (frameTurn x s fs)
-  unfolding Framed
-  frame-fine s [] h = last-fine (s .conds)
-  frame-fine s (f ∷ fs) h = act-fine x s f fs (h .0) (h .1) (act-asks x s f fs)
-
   pub turn-fine : (s : State) → Framed x (s .frames) → Fine x (turnAt x s)
-  unfolding turnAt
-  turn-fine s h = frame-fine s (s .frames) h
+  unfolding Fine Placed Framed
+  turn-fine s h =
+      by-turn x s (Fine x) (λ q k. tt) (λ c cs k. tt)
+      (λ f fs q. let g : Framed x (f ∷ fs) = subst (Framed x) q h in act-fine x s f fs (g .0) (g .1) (act-asks x s f fs))
 
   -- a turn keeps the frames so
   pub turn-framed : (s s′ : State) (m : Made) → turnAt x s ≡ more s′ m → Framed x (s .frames) → Framed x (s′ .frames)

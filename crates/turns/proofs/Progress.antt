@@ -2,8 +2,8 @@
 -- Assumes nothing.
 use Prim.Native.Nat.{ℕ, zero, suc, _+_, _-_, _*_, _<_, _≤_}
 use mathlib.Core.Bool.{Bool, true, false}
-use mathlib.Core.List.{List, [], _∷_}
-use mathlib.Core.Path.{_≡_, ap, subst}
+use mathlib.Core.List.{List, _∷_}
+use mathlib.Core.Path.{_≡_, sym, ap, subst}
 use native.Mathlib.Nat.{mul-le-mul-right, mul-lt-mul-of-pos-right, suc-mul}
 use native.Mathlib.Omega.{arith}
 use lib.Dec.{eqb}
@@ -11,19 +11,19 @@ use lib.ListN.{length, getD}
 use Rattle.lex.proofs.Tests.{by-test}
 use Rattle.store.specs.Stores.{define, fits}
 use Rattle.settings.specs.declared.Settings.{Settings}
-use Rattle.writing.specs.Written.{Written, Put, full, fitted, putIn}
-use Rattle.blocks.specs.Blocks.{Conditional}
+use Rattle.writing.specs.Written.{Written}
 use Rattle.copying.specs.declared.Cursor.{Cursor}
 use Rattle.copying.specs.Cursors.{opening, cursorPast, cursorBehind}
 use Rattle.handover.specs.Entries.{blankEntry, bodyOf, allEntries}
 use Rattle.handover.proofs.Laws.{entries-sound, entry-body}
-use Rattle.turns.specs.States.{Context, Frame, State, Made, Turn, more, stop, finished, Here, framesAt, behind, onPut, write}
+use Rattle.turns.specs.States.{Context, Frame, State, Made, Turn, more, stop, finished, Here, framesAt, behind, write}
 use Rattle.turns.specs.Acts.{Act}
 use Rattle.turns.specs.Usages.{usageEnd, expandHere}
 use Rattle.turns.specs.Performing.{perform}
-use Rattle.turns.specs.Turns.{lastTurn, hereAt, frameTurn, turnAt}
+use Rattle.turns.specs.Turns.{hereAt, tokenTurn, turnAt}
 use Rattle.turns.specs.Runs.{power, measure}
 use Rattle.turns.specs.Asking.{Reading, EndsAt, Asks, to-refuse, to-leave, to-copy, to-skip, to-hide, to-branch, to-define, to-undefine, to-include, to-keep, to-spell, to-expand}
+use Rattle.turns.proofs.Turning.{by-turn, by-write}
 use Rattle.turns.proofs.Asking.{usage-ends, act-asks}
 
 -- ---- numbers
@@ -63,13 +63,9 @@ module _ (x : Context) (s : State) (f : Frame) (fs : List Frame) where
   abbrev Less : List Frame → Type 0
   Less gs = measure x gs < measure x (f ∷ fs)
 
-  put-goes : (ws : List Written) (gs : List Frame) (c : Settings) (p : Put) → Less gs → Goes (onPut here ws gs c p)
-  unfolding Falls
-  put-goes ws gs c (full n) h = tt
-  put-goes ws gs c (fitted r) h = h
-
   write-goes : (ws : List Written) (gs : List Frame) (c : Settings) → Less gs → Goes (write here ws gs c)
-  write-goes ws gs c h = put-goes ws gs c (putIn (s .room) ws) h
+  unfolding Falls
+  write-goes ws gs c h = by-write here Goes ws gs c (λ n e. tt) (λ r e. h)
 
   -- the file ends
   popped : Less fs
@@ -121,16 +117,10 @@ module _ (x : Context) (s : State) (f : Frame) (fs : List Frame) where
       (λ q. behind-less (usageEnd here) (a .reading) (usage-ends here (a .reading .within) q))
       (λ q. tt)
 
-last-goes : (x : Context) (cs : List Conditional) → Falls x [] (lastTurn cs)
-unfolding Falls
-last-goes x [] = tt
-last-goes x (c ∷ cs) = tt
-
-frame-goes : (x : Context) (s : State) (gs : List Frame) → allEntries (x .store) (x .table) ≡ true → Falls x gs (frameTurn x s gs)
-frame-goes x s [] ok = last-goes x (s .conds)
-frame-goes x s (f ∷ fs) ok = act-goes x s f fs ok (act-asks x s f fs)
-
 pub turn-falls : (x : Context) (s s′ : State) (m : Made) → allEntries (x .store) (x .table) ≡ true → turnAt x s ≡ more s′ m
     → measure x (s′ .frames) < measure x (s .frames)
-unfolding Falls turnAt
-turn-falls x s s′ m ok e = subst (λ (t : Turn). Falls x (s .frames) t) e (frame-goes x s (s .frames) ok)
+unfolding Falls
+turn-falls x s s′ m ok e =
+    subst (Falls x (s .frames)) e
+    (by-turn x s (Falls x (s .frames)) (λ q k. tt) (λ c cs k. tt)
+    (λ f fs q. subst (λ (gs : List Frame). Falls x gs (tokenTurn (hereAt x s f fs))) (sym q) (act-goes x s f fs ok (act-asks x s f fs))))

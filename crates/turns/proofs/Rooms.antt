@@ -21,11 +21,12 @@ use Rattle.replace.specs.Replacing.{Got, refused, got, replace}
 use Rattle.blocks.specs.Blocks.{Conditional}
 use Rattle.handover.specs.Sizes.{HandOver, Rooms, isSound}
 use Rattle.expand.specs.Expanding.{Outer, Expansion, Next, dealBy, onGot, walk, onward, onPut as puts, writes as printed, first, expand}
-use Rattle.turns.specs.States.{Context, Frame, State, Turn, more, stop, finished, Here, onPut, write, goTo, refuseAt, roomAfter}
+use Rattle.turns.specs.States.{Context, Frame, State, Turn, more, stop, finished, Here, write, goTo, refuseAt, roomAfter}
 use Rattle.turns.specs.Acts.{Act, refuses, leaves, copies, skips, hides, branches, defines, undefines, includes, keeps, spells, expands, actAt}
 use Rattle.turns.specs.Usages.{afterUsage, usageEnd, expandHere, outerOf}
 use Rattle.turns.specs.Performing.{perform}
-use Rattle.turns.specs.Turns.{lastTurn, hereAt, frameTurn, turnAt}
+use Rattle.turns.specs.Turns.{hereAt, turnAt}
+use Rattle.turns.proofs.Turning.{by-turn, by-write}
 use Rattle.turns.specs.Runs.{Run, Outcome, follow, runFor, measure, runFrom, contextOf, startOf, flattened}
 use Rattle.turns.specs.Lines.{linesFrom, linesIn}
 
@@ -135,13 +136,11 @@ module _ (h : Here) where
   unfolding TurnFits mapOf freshAfter
   go-fits fs cs ms = (room-same (h .state .room), fits-none (h .state .room))
 
-  put-turns : (ws : List Written) (fs : List Frame) (c : Settings) (p : Put) → PutFits (h .state .room) ws p → Turns (onPut h ws fs c p)
-  unfolding TurnFits PutFits
-  put-turns ws fs c (full n) f = fits-none (h .state .room)
-  put-turns ws fs c (fitted r) f = f
-
   write-fits : (ws : List Written) (fs : List Frame) (c : Settings) → Turns (write h ws fs c)
-  write-fits ws fs c = put-turns ws fs c (putIn (h .state .room) ws) (put-fits (h .state .room) ws)
+  unfolding TurnFits PutFits
+  write-fits ws fs c =
+      by-write h Turns ws fs c (λ n e. refuse-fits n (h .token .at))
+      (λ r e. subst (PutFits (h .state .room) ws) e (put-fits (h .state .room) ws))
 
   after-fits : (next : ℕ) (e : Expansion) → Fits (h .state .room) (e .text) → Turns (afterUsage h next e)
   unfolding TurnFits
@@ -164,18 +163,10 @@ module _ (h : Here) where
       after-fits (usageEnd h) (expandHere h)
       (expand-fits (h .state .left) (outerOf h) (h .state .macros) (h .state .room) (nameOf (h .body) (h .token)) (h .body) (h .token .end))
 
-last-fits : (r : Room) (cs : List Conditional) → TurnFits r (lastTurn cs)
-unfolding TurnFits
-last-fits r [] = tt
-last-fits r (c ∷ cs) = fits-none r
-
-frame-fits : (x : Context) (s : State) (fs : List Frame) → TurnFits (s .room) (frameTurn x s fs)
-frame-fits x s [] = last-fits (s .room) (s .conds)
-frame-fits x s (f ∷ fs) = let h = hereAt x s f fs in act-fits h (actAt h)
-
 turn-fits : (x : Context) (s : State) → TurnFits (s .room) (turnAt x s)
-unfolding turnAt
-turn-fits x s = frame-fits x s (s .frames)
+unfolding TurnFits
+turn-fits x s =
+    by-turn x s (TurnFits (s .room)) (λ q k. tt) (λ c cs k. fits-none (s .room)) (λ f fs q. let h = hereAt x s f fs in act-fits h (actAt h))
 
 -- ---- a run
 

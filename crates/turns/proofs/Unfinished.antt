@@ -6,12 +6,13 @@ use lib.Dec.{eqb}
 use Rattle.lex.proofs.Tests.{by-test}
 use Rattle.store.specs.Stores.{define, fits}
 use Rattle.settings.specs.declared.Settings.{Settings}
-use Rattle.writing.specs.Written.{Written, Put, full, fitted, putIn}
-use Rattle.turns.specs.States.{Frame, Turn, more, stop, finished, Here, onPut, write}
+use Rattle.writing.specs.Written.{Written}
+use Rattle.turns.specs.States.{Frame, Turn, more, stop, finished, Here, write}
 use Rattle.turns.specs.Acts.{Act, refuses, leaves, copies, skips, hides, branches, defines, undefines, includes, keeps, spells, expands, actAt}
 use Rattle.turns.specs.Usages.{expandHere}
 use Rattle.turns.specs.Performing.{perform}
 use Rattle.turns.specs.Turns.{tokenTurn}
+use Rattle.turns.proofs.Turning.{by-write}
 
 Goes : Turn → Type 0
 Goes (more s m) = Unit {0}
@@ -19,13 +20,9 @@ Goes (stop n f p m) = Unit {0}
 Goes finished = ⊥
 
 module _ (h : Here) where
-  put-goes : (ws : List Written) (fs : List Frame) (c : Settings) (p : Put) → Goes (onPut h ws fs c p)
-  unfolding Goes
-  put-goes ws fs c (full n) = tt
-  put-goes ws fs c (fitted r) = tt
-
   write-goes : (ws : List Written) (fs : List Frame) (c : Settings) → Goes (write h ws fs c)
-  write-goes ws fs c = put-goes ws fs c (putIn (h .state .room) ws)
+  unfolding Goes
+  write-goes ws fs c = by-write h Goes ws fs c (λ n e. tt) (λ r e. tt)
 
   act-goes : (a : Act) → Goes (perform h a)
   unfolding Goes

@@ -15,10 +15,10 @@ use Rattle.handover.proofs.Laws.{sound-facts}
 use Rattle.turns.specs.States.{Context, State, Turn, more, stop, finished}
 use Rattle.turns.specs.Turns.{turnAt}
 use Rattle.turns.specs.Runs.{Run, Outcome, ends, onto, follow, runFor, measure, runFrom, contextOf, startOf, outcomeOf, flattened}
-use Rattle.claims.specs.Growing.{Larger, wantsRoom, Grows}
-use Rattle.claims.proofs.GrowingUsages.{Wider, Front, front-same, front-behind, front-on}
+use Rattle.claims.specs.Growing.{Larger, wantsRoom, Grows, Front}
+use Rattle.claims.proofs.GrowingUsages.{Wider, front-same, front-behind, front-on}
 use Rattle.claims.proofs.Taken.{taken}
-use Rattle.claims.proofs.GrowingTurns.{inRoom, writtenBy, TurnsGrow, both-go, both-stop, both-end, lacks-room, turn-grows}
+use Rattle.claims.proofs.GrowingTurns.{inRoom, textBy, TurnsGrow, both-go, both-stop, both-end, lacks-room, turn-grows}
 
 -- ---- a run
 
@@ -31,7 +31,7 @@ same-grows : (g : Run) → RunGrows g g
 same-grows g = record { text-front = front-same (g .text); run-same = λ z. refl }
 
 -- a run writes what its first turn writes, and more
-follow-front : (s : State) (ws : List Written) (t : Turn) (go : State → Run) → Front ws (writtenBy t) → Front ws (follow s t go .text)
+follow-front : (s : State) (ws : List Written) (t : Turn) (go : State → Run) → Front ws (textBy t) → Front ws (follow s t go .text)
 follow-front s ws (more s′ m) go f = front-on ws (m .text) (go s′ .text) f
 follow-front s ws (stop n i p m) go f = front-on ws (m .text) [] f
 follow-front s ws finished go f = f

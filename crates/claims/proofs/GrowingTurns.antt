@@ -20,8 +20,8 @@ use Rattle.turns.specs.Usages.{afterUsage, usageEnd, expandHere, outerOf}
 use Rattle.turns.specs.Performing.{perform}
 use Rattle.turns.specs.Turns.{tokenTurn, lastTurn, hereAt, frameTurn, turnAt}
 use Rattle.turns.proofs.Acts.{act-same}
-use Rattle.claims.specs.Growing.{wantsRoom}
-use Rattle.claims.proofs.GrowingUsages.{both-by, Wider, after-wider, PutsGrow, fits as both-fit, lacks, put-grows, Front, front-none, ExpansionGrows, leaving, expand-grows}
+use Rattle.claims.specs.Growing.{wantsRoom, Front}
+use Rattle.claims.proofs.GrowingUsages.{both-by, Wider, after-wider, PutsGrow, fits as both-fit, lacks, put-grows, front-none, ExpansionGrows, leaving, expand-grows}
 
 -- the state s with the room r
 abbrev pub inRoom : Room → State → State
@@ -36,17 +36,17 @@ inRoom r s =
     }
 
 -- what a turn writes
-abbrev pub writtenBy : Turn → List Written
-writtenBy (more s m) = m .text
-writtenBy (stop n f p m) = m .text
-writtenBy finished = []
+abbrev pub textBy : Turn → List Written
+textBy (more s m) = m .text
+textBy (stop n f p m) = m .text
+textBy finished = []
 
 -- a turn in a room, and in a larger one: the same; or the smaller is refused for room, a front of the other written
 pub data TurnsGrow : Turn → Turn → Type 0 where
   both-go : (s : State) (r r′ : Room) (m : Made) → Wider r r′ → TurnsGrow (more (inRoom r s) m) (more (inRoom r′ s) m)
   both-stop : (n f p : ℕ) (m : Made) → TurnsGrow (stop n f p m) (stop n f p m)
   both-end : TurnsGrow finished finished
-  lacks-room : (n f p : ℕ) (m : Made) (t : Turn) → wantsRoom n ≡ true → Front (m .text) (writtenBy t) → TurnsGrow (stop n f p m) t
+  lacks-room : (n f p : ℕ) (m : Made) (t : Turn) → wantsRoom n ≡ true → Front (m .text) (textBy t) → TurnsGrow (stop n f p m) t
 
 -- 19 and 20 are refusals
 room-some : (n : ℕ) → wantsRoom n ≡ true → eqb n 0 ≡ false
@@ -78,14 +78,14 @@ module _ (h : Here) (r r′ : Room) (w : Wider r r′) where
       → TurnsGrow (onPut small ws fs c p) (onPut large ws fs c p′)
   put-turns ws fs c p p′ (both-fit q q′ v) =
       both-go (record { frames = fs; conds = h .state .conds; macros = h .state .macros; settings = c; room = q; left = h .state .left }) q q′ _ v
-  put-turns ws fs c p p′ (lacks n q e) = lacks-room n _ _ _ (onPut large ws fs c q) e (front-none (writtenBy (onPut large ws fs c q)))
+  put-turns ws fs c p p′ (lacks n q e) = lacks-room n _ _ _ (onPut large ws fs c q) e (front-none (textBy (onPut large ws fs c q)))
 
   write-grows : (ws : List Written) (fs : List Frame) (c : Settings) → TurnsGrow (write small ws fs c) (write large ws fs c)
   write-grows ws fs c = put-turns ws fs c (putIn r ws) (putIn r′ ws) (put-grows r r′ ws w)
 
   -- what a turn behind a usage writes
-  usage-writes : (next : ℕ) (e : Expansion) → writtenBy (afterUsage large next e) ≡ e .text
-  usage-writes next e = by-test (λ (t : Turn). writtenBy t ≡ e .text) (eqb (e .stop) 0) (λ q. refl) (λ q. refl)
+  usage-writes : (next : ℕ) (e : Expansion) → textBy (afterUsage large next e) ≡ e .text
+  usage-writes next e = by-test (λ (t : Turn). textBy t ≡ e .text) (eqb (e .stop) 0) (λ q. refl) (λ q. refl)
 
   -- the usage has room in both
   after-same : (next : ℕ) (e : Expansion) (q : Room) → TurnsGrow (afterUsage small next e) (afterUsage large next (leaving q e))

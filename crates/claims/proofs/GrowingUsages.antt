@@ -15,7 +15,7 @@ use Rattle.pending.specs.Pending.{Pending, View, blanks, calls, names, opens, c
 use Rattle.replace.specs.Replacing.{Got, refused, got, replace, deepest}
 use Rattle.expand.specs.Expanding.{Outer, Expansion, Next, ends, writing, replacing, dealBy, onGot, onPut, walk, onward, writes, first, expand}
 use Rattle.turns.specs.States.{roomAfter}
-use Rattle.claims.specs.Growing.{wantsRoom}
+use Rattle.claims.specs.Growing.{Front, wantsRoom}
 
 -- what holds of two pairs of values, each where a test is so, holds of those picked by it
 pub both-by : {A : Type 0} (P : A → A → Type 0) (b : Bool) {x y x′ y′ : A} → (b ≡ true → P x x′) → (b ≡ false → P y y′)
@@ -65,11 +65,6 @@ put-grows r r′ ws w =
     (fits (roomAfter r ws) (roomAfter r′ ws) (after-wider r r′ ws w))))
 
 -- ---- what is written
-
--- ws is a front of vs
-pub record Front (ws vs : List Written) : Type 0 where
-  pub rest : List Written
-  pub front-is : vs ≡ ws ++ rest
 
 pub front-none : (vs : List Written) → Front [] vs
 front-none vs = record { rest = vs; front-is = refl }

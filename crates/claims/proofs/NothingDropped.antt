@@ -20,9 +20,10 @@ use Rattle.turns.specs.Turns.{hereAt, turnAt}
 use Rattle.turns.specs.Runs.{Run, measure, runFrom, contextOf, startOf, Outcome, flattened}
 use Rattle.turns.proofs.Lines.{lines-are}
 use Rattle.passing.proofs.Whole as run
+use Rattle.claims.specs.Growing.{Front}
 use Rattle.claims.specs.Files.{fileOf}
 use Rattle.claims.specs.Stretches.{takenTo, writtenBy, OpenFile, Stretch, Told, start, none}
-use Rattle.claims.specs.NothingDropped.{AllTaken, AllWhole, EndsBy, Front, AsWritten, copied, kept, InTaken, token, definition, removal, inclusion, directive, word, usage, PassedOver, skipped, hidden, Ignoring, NothingDropped}
+use Rattle.claims.specs.NothingDropped.{AllTaken, AllWhole, EndsBy, AsWritten, copied, kept, InTaken, token, definition, removal, inclusion, directive, word, usage, PassedOver, skipped, hidden, Ignoring, NothingDropped}
 use Rattle.claims.proofs.Taken.{taken}
 use Rattle.claims.proofs.RefusedTurns.{StopIn, CondsIn, TurnIn, turn-good, conds-are}
 use Rattle.claims.proofs.Telling.{told-through, all-taken, byte-within, ends-by, rest-of, all-whole}
@@ -95,7 +96,7 @@ module _ (h : HandOver) (r : Rooms) (e : isSound h r ≡ true) where
   front s u t =
       record {
         rest = textOf (runFrom x s .text);
-        text-is = ap (λ (o : Outcome). o .text) (taken h r e) ∙ rest-of x s₀ first (sound-facts h r e .entries) t;
+        front-is = ap (λ (o : Outcome). o .text) (taken h r e) ∙ rest-of x s₀ first (sound-facts h r e .entries) t;
       }
 
   whole : flattened h r .number ≡ 0 → (s : State) (u : List ℕ) → Told x s₀ s u → AllWhole x s₀ (s .frames)

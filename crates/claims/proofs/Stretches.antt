@@ -26,7 +26,7 @@ use Rattle.turns.specs.Usages.{usageEnd, expandHere}
 use Rattle.turns.specs.Performing.{perform}
 use Rattle.turns.specs.Turns.{hereAt, turnAt}
 use Rattle.turns.proofs.Turning.{by-turn, by-write}
-use Rattle.turns.proofs.Asking.{usage-ends, act-asks}
+use Rattle.turns.proofs.Asking.{word-ends, usage-ends, act-asks}
 use Rattle.claims.specs.Files.{fileOf}
 use Rattle.claims.specs.Stretches.{takenTo, writtenBy, openFile, OpenFile, Acted, Behind, on, into, Stretch, Leaving}
 use Rattle.claims.specs.NothingDropped.{Begun, nothing, begun}
@@ -82,9 +82,6 @@ module _ (x : Context) (s : State) (f : Frame) (fs : List Frame) (q : s .frames 
   unfolding cursorBehind
   behind-into i e = into i (cursorBehind (here .body) e (f .cursor)) refl
 
-  token-ends : Reading here → EndsAt here (here .token .end)
-  token-ends r = record { past = omega arith; within = r .within }
-
   -- the file's end
   end-length : is End (here .token) ≡ true → f .cursor .at ≡ length (fileOf x (f .file))
   end-length e = go (leb (length (fileOf x (f .file))) (f .cursor .at)) refl
@@ -111,8 +108,8 @@ module _ (x : Context) (s : State) (f : Frame) (fs : List Frame) (q : s .frames 
   act-does (to-leave b e) p =
       by-test (Does x s) (f .cursor .comment) (λ c. leave-does (to-leave b e) p e _ (rw c (sym (text-placed 1 _ (10 ∷ [])))))
       (λ c. λ g. leave-to (to-leave b e) p e _ states.nothing refl (rw c) g)
-  act-does (to-copy r t g) p = write-does (to-copy r t g) p r refl (token-ends r) _ _ _ (past-on true) (sym (text-placed 1 _ _))
-  act-does (to-skip r t) p = go-does (to-skip r t) p r refl (token-ends r) _ _ _ (past-on false) refl
+  act-does (to-copy r t g) p = write-does (to-copy r t g) p r refl (word-ends here r) _ _ _ (past-on true) (sym (text-placed 1 _ _))
+  act-does (to-skip r t) p = go-does (to-skip r t) p r refl (word-ends here r) _ _ _ (past-on false) refl
   act-does (to-hide {e} a t d i) p = go-does (to-hide a t d i) p (a .reading) refl i _ _ _ (behind-on e) refl
   act-does (to-branch {d} {e} {cs} a o i) p = go-does (to-branch a o i) p (a .reading) refl i _ _ _ (behind-on e) refl
   act-does (to-define {m} {e} a t d i) p =
@@ -121,7 +118,7 @@ module _ (x : Context) (s : State) (f : Frame) (fs : List Frame) (q : s .frames 
   act-does (to-undefine {ms} {e} r t d i) p = go-does (to-undefine r t d i) p r refl i _ _ _ (behind-on e) refl
   act-does (to-include {i} {e} a t n z) p = go-does (to-include a t n z) p (a .reading) refl z _ _ _ (behind-into i e) refl
   act-does (to-keep {v} {e} d a t k o i) p = write-does (to-keep d a t k o i) p (a .reading) refl i _ _ _ (behind-on e) (sym (text-placed 1 _ _))
-  act-does (to-spell {w} r t k) p = write-does (to-spell r t k) p r refl (token-ends r) _ _ _ (behind-on (here .token .end)) (sym (text-placed 0 _ w))
+  act-does (to-spell {w} r t k) p = write-does (to-spell r t k) p r refl (word-ends here r) _ _ _ (behind-on (here .token .end)) (sym (text-placed 0 _ w))
   act-does (to-expand a t) p =
       by-test (Does x s) (eqb (expandHere here .stop) 0)
       (λ k. λ g. taken-to (to-expand a t) p (a .reading) refl (usage-ends here (a .reading .within) k) _ _ (behind-on (usageEnd here)) refl g)

@@ -19,6 +19,11 @@ pub record Larger (r r′ : Rooms) : Type 0 where
 abbrev pub wantsRoom : ℕ → Bool
 wantsRoom n = eqb n 19 || eqb n 20
 
+-- u stands at the front of t
+pub record Front {A : Type 0} (u t : List A) : Type 0 where
+  pub rest : List A
+  pub front-is : t ≡ u ++ rest
+
 -- text and map are fronts of the other's; an outcome that is no refusal for room is the same
 pub record Grows (o o′ : Outcome) : Type 0 where
   pub more : List ℕ

@@ -19,6 +19,7 @@ use Rattle.turns.specs.Acts.{Act, copies, skips, hides, defines, undefines, inc
 use Rattle.turns.specs.Usages.{expandHere}
 use Rattle.turns.specs.Turns.{hereAt, turnAt}
 use Rattle.turns.specs.Runs.{Outcome, flattened}
+use Rattle.claims.specs.Growing.{Front}
 use Rattle.claims.specs.Files.{fileOf, Accented}
 use Rattle.claims.specs.Stretches.{OpenFile, openFile, Stretch, Leaving, Told, Stretches}
 
@@ -75,11 +76,6 @@ pub data Ends (x : Context) (s₀ : State) : ℕ → ℕ → ℕ → List ℕ �
 
 abbrev pub EndsBy : Context → State → Outcome → Type 0
 EndsBy x s₀ o = Ends x s₀ (o .number) (o .file) (o .byte) (o .text)
-
--- u stands at the front of t
-pub record Front (u t : List ℕ) : Type 0 where
-  pub rest : List ℕ
-  pub text-is : t ≡ u ++ rest
 
 -- the acts that write the bytes that they take, as they stand
 pub data AsWritten : Act → Type 0 where

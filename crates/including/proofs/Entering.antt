@@ -17,7 +17,7 @@ use Rattle.directive.specs.Include.{includeAt}
 use Rattle.handover.specs.Entries.{entryOf}
 use Rattle.turns.specs.States.{Here}
 use Rattle.turns.specs.Acts.{enterAct, includeAct}
-use Rattle.turns.specs.Asking.{EndsAt}
+use Rattle.turns.specs.Asking.{EndsIn}
 use Rattle.turns.proofs.Forms.{include-inside}
 use Rattle.turns.proofs.Asking.{ends-at}
 use Rattle.including.specs.declared.Entered.{Entered}
@@ -32,7 +32,7 @@ module _ (store : List ℕ) (table : List (List ℕ)) (s : List ℕ) (t : Token)
   module _ (form : ℕ) (w : List ℕ) where
     -- the answer to a file of that form and name
     abbrev Enter : Entered → Type 0
-    Enter r = (h : Here) → IncludeHere h store table s t other depth → (h .token .end ≤ length (h .body) → EndsAt h (l .end)) → EnteredBy r h (enterAct h l form w) table depth
+    Enter r = (h : Here) → IncludeHere h store table s t other depth → EndsIn h (l .end) → EnteredBy r h (enterAct h l form w) table depth
 
     -- 9: the line or the name bars it
     pub enter-barred : barredBy other l form w ≡ true → Enter (entered.Refused 9 (t .at))
@@ -77,7 +77,7 @@ module _ (store : List ℕ) (table : List (List ℕ)) (s : List ℕ) (t : Token)
       pub include-unnamed : l .file ≡ Unnamed → Include (entered.Refused 7 (t .at))
       include-unnamed f h x = (rw (← q, eq-eqb (l .bars .number) 0 n, f, x .token-is), omega arith)
 
-      line-ends : (h : Here) → IncludeHere h store table s t other depth → h .token .end ≤ length (h .body) → EndsAt h (l .end)
+      line-ends : (h : Here) → IncludeHere h store table s t other depth → EndsIn h (l .end)
       line-ends h x w =
           let i : Inside (h .body) (h .token .end) (l .end) = rw (x .body-is, x .token-is, q) (include-inside s (t .end) (rw (x .body-is, x .token-is) at w)) in
           ends-at h (l .end) i

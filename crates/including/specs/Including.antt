@@ -1,6 +1,6 @@
 -- What the code answers to an include.
 -- Assumes nothing.
-use Prim.Native.Nat.{ℕ, _-_, _<_, _≤_}
+use Prim.Native.Nat.{ℕ, _-_, _<_}
 use mathlib.Core.Bool.{Bool}
 use mathlib.Core.Path.{_≡_}
 use mathlib.Core.List.{List}
@@ -8,7 +8,7 @@ use lib.ListN.{length}
 use Rattle.lex.specs.declared.Token.{Token}
 use Rattle.turns.specs.States.{Here}
 use Rattle.turns.specs.Acts.{Act, refuses, includes}
-use Rattle.turns.specs.Asking.{EndsAt}
+use Rattle.turns.specs.Asking.{EndsIn}
 use Rattle.including.specs.declared.Entered.{Entered}
 use Rattle.including.specs.declared.Entered.the-variants as entered
 
@@ -26,7 +26,7 @@ pub record Enters (h : Here) (a : Act) (table : List (List ℕ)) (depth i e : �
   pub act-is : a ≡ includes i e
   pub entry-in : i < length table
   pub room : depth < 16
-  pub ends : h .token .end ≤ length (h .body) → EndsAt h e
+  pub ends : EndsIn h e
 
 abbrev pub EnteredBy : Entered → Here → Act → List (List ℕ) → ℕ → Type 0
 EnteredBy (entered.Into i e) h a table depth = Enters h a table depth i e

@@ -1,13 +1,13 @@
 // Includes (document 01, "Directives"): which file is entered, or 7, 9, 10, or 2 to 6 of the line.
 ghost use mathlib.Core.Path.{_≡_};
 ghost use mathlib.Core.Bool.{_&&_, _||_};
-ghost use Prim.Native.Nat.{_<_, _≤_};
+ghost use Prim.Native.Nat.{_<_};
 ghost use lib.Dec.{eqb};
-ghost use lib.ListN.{length, getD};
+ghost use lib.ListN.{getD};
 ghost use Rattle.directive.specs.Include.{includeAt};
 ghost use Rattle.turns.specs.States.{Here};
 ghost use Rattle.turns.specs.Acts.{enterAct, includeAct};
-ghost use Rattle.turns.specs.Asking.{EndsAt};
+ghost use Rattle.turns.specs.Asking.{EndsIn};
 ghost use Rattle.including.specs.Including.{IncludeHere, EnteredBy};
 use directive::FileName;
 use directive::IncludeLine;
@@ -43,7 +43,7 @@ fn enter(
     w: &[u8],
 ) -> Entered
     requires { ⌜ 0 < depth ⌝ }
-    ensures { λ r. ⌜ ((h : Here) → IncludeHere h (now (store .entry)) (now (table .entry)) (now (s .entry)) t other depth → (h .token .end ≤ length (h .body) → EndsAt h (l .end)) → EnteredBy r h (enterAct h l form (now (w .entry))) (now (table .entry)) depth) ⌝ }
+    ensures { λ r. ⌜ ((h : Here) → IncludeHere h (now (store .entry)) (now (table .entry)) (now (s .entry)) t other depth → EndsIn h (l .end) → EnteredBy r h (enterAct h l form (now (w .entry))) (now (table .entry)) depth) ⌝ }
 {
     if is_barred(other, l, form, w) {
         return Entered::Refused(9, t.at);

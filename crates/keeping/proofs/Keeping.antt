@@ -25,7 +25,7 @@ use Rattle.turns.specs.States.{Frame, Here, refuseAt, behind, onPut, write, pla
 use Rattle.turns.specs.Acts.{onForm, keeps, keepAct}
 use Rattle.turns.specs.Performing.{perform}
 use Rattle.turns.proofs.Forms.{form-inside, form-bars}
-use Rattle.turns.specs.Asking.{EndsAt}
+use Rattle.turns.specs.Asking.{EndsIn}
 use Rattle.turns.proofs.Asking.{ends-at}
 use Rattle.keeping.specs.declared.Kept.the-variants as kept
 use Rattle.keeping.specs.Keeping.{KeepHere, Keepable, KeptBy}
@@ -96,7 +96,7 @@ module _ (d : ℕ) {h : Here} {s : List ℕ} {t : Token} {set place : ℕ} {c : 
         ap (λ (x : ℕ). setBy v x (h .state .settings)) (k .set-is) ∙ ap (λ (x : Settings). setBy v set x) (k .settings-are) in
         turn-of formed ∙ write-is h (behind h e) a q (k .room-is) i
 
-    formed-ends : h .token .end ≤ length (h .body) → EndsAt h e
+    formed-ends : EndsIn h e
     formed-ends l =
         let b : Inside (h .body) (h .token .end) e = rw (k .body-is, k .token-is) (form-inside s (t .end) (rw (k .body-is, k .token-is) at l) d v e (sym found ∙ formed)) in
         ends-at h e b

@@ -11,7 +11,7 @@ use Rattle.writing.specs.Buffers.{roomOf, Puts}
 use Rattle.writing.specs.declared.Spot.{Spot}
 use Rattle.turns.specs.States.{more, Here, refuseAt, behind, placeHere, writes}
 use Rattle.turns.specs.Acts.{Act}
-use Rattle.turns.specs.Asking.{EndsAt}
+use Rattle.turns.specs.Asking.{EndsIn}
 use Rattle.turns.specs.Performing.{perform}
 use Rattle.keeping.specs.declared.Kept.{Kept}
 use Rattle.keeping.specs.declared.Kept.the-variants as kept
@@ -46,7 +46,7 @@ pub record Keeps (h : Here) (a : Act) (text text′ map map′ : List ℕ) (c′
         left = h .state .left;
       })
       (writes written)
-  pub ends : h .token .end ≤ length (h .body) → EndsAt h e
+  pub ends : EndsIn h e
   pub puts : Puts written text text′ map map′ z z′
   pub in-text : z′ .written ≤ length text
   pub in-map : z′ .lines ≤ length map

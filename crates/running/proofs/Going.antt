@@ -44,7 +44,7 @@ use Rattle.copying.specs.Copying.{Reads}
 use Rattle.turns.specs.States.{Context, Frame, State, Made, nothing, writes, Turn, more, stop, finished, Here, behind, goTo, placeHere}
 use Rattle.turns.specs.Acts as acts
 use Rattle.turns.specs.Acts.{Act, nameIn, onForm, undefAct, includeAct}
-use Rattle.turns.specs.Asking.{EndsAt}
+use Rattle.turns.specs.Asking.{EndsIn}
 use Rattle.turns.specs.Performing.{perform}
 use Rattle.turns.proofs.Inside.{inside-on, token-inside}
 use Rattle.turns.proofs.Forms.{BarredIn, form-inside, form-bars}
@@ -204,7 +204,7 @@ module _ {x : Context} {fs : List ℕ} {es : List (List ℕ)} {kind : ℕ} {B : 
 
   -- a directive's end, behind its token in the file
   pub inside-there : (limit : ℕ) (ms : List Macro) (e : ℕ) → Ok fs es B z
-      → let h = hereOf x limit B ms z in (h .token .end ≤ length (h .body) → EndsAt h e) → Inside s (t .end) e
+      → EndsIn (hereOf x limit B ms z) e → Inside s (t .end) e
   inside-there limit ms e o i =
       rw (token-at-here, body-here) at (as-inside (hereOf x limit B ms z) e (i (rw (token-at-here, body-here) (token-here a o .within))))
 

@@ -48,15 +48,16 @@ usage-ends h w e =
     ends-at h (usageEnd h)
     (usage-inside (h .body) (h .token .end) w (h .state .left) (outerOf h) (h .state .macros) (h .state .room) (nameOf (h .body) (h .token)) e)
 
+-- behind the word alone
+pub word-ends : (h : Here) → Reading h → EndsAt h (h .token .end)
+word-ends h r = record { past = omega arith; within = r .within }
+
 module _ (h : Here) where
   rule : (n : ℕ) → 7 ≤ n → n ≤ 11 → Asks h (refusesHere h n)
   rule n a b = to-refuse (of-rule a b)
 
   -- a grave accent name, of the directive d
   module _ (d : ℕ) (a : Named h d) where
-    word-ends : EndsAt h (h .token .end)
-    word-ends = record { past = omega arith; within = a .reading .within }
-
     form-asks : (k : ℕ) (y : Value → ℕ → Act) → ((v : Value) (e : ℕ) → formHere k h ≡ Formed v e → EndsAt h e → Asks h (y v e))
         → Asks h (onForm (h .token .at) (formHere k h) y)
     form-asks k y g = go (formHere k h) refl
@@ -73,8 +74,8 @@ module _ (h : Here) where
     conditional-asks : (leb Ifdef d && leb d Endif) ≡ true → Asks h (conditionalAct d h)
     unfolding conditionalAct
     conditional-asks c =
-        by-test (Asks h) (eqb d Endif) (λ q. blocks-ask _ (closeBlock (h .state .conds)) (by-endif (eqb-true d Endif q)) word-ends)
-        (λ x. by-test (Asks h) (eqb d Else) (λ q. blocks-ask _ (nextBlock true true (h .state .conds)) (by-else (eqb-true d Else q)) word-ends)
+        by-test (Asks h) (eqb d Endif) (λ q. blocks-ask _ (closeBlock (h .state .conds)) (by-endif (eqb-true d Endif q)) (word-ends h (a .reading)))
+        (λ x. by-test (Asks h) (eqb d Else) (λ q. blocks-ask _ (nextBlock true true (h .state .conds)) (by-else (eqb-true d Else q)) (word-ends h (a .reading)))
         (λ y. form-asks d (conditionAct d h)
         (λ v e f i. by-test (Asks h) (eqb d Elsif)
         (λ z. blocks-ask e (nextBlock (isDefined h v) false (h .state .conds)) (by-elsif v (eqb-true d Elsif z) f) i)
@@ -134,7 +135,7 @@ module _ (h : Here) where
         by-test (Asks h) (eqb d 0) (λ q. to-expand (named 0 q) t)
         (λ q. by-test (Asks h) (eqb d Define) (λ q. define-asks (definitionAt (h .body) (h .token .end)) q t refl)
         (λ q. by-test (Asks h) (eqb d Undef) (λ z. form-asks Undef _ (λ v e f i. to-undefine (a .reading) t (all-but v (named Undef z) f) i))
-        (λ q. by-test (Asks h) (eqb d UndefineAll) (λ q. to-undefine (a .reading) t (no-more (named UndefineAll q)) word-ends)
+        (λ q. by-test (Asks h) (eqb d UndefineAll) (λ q. to-undefine (a .reading) t (no-more (named UndefineAll q)) (word-ends h (a .reading)))
         (λ q. by-test (Asks h) (eqb d Include) (λ q. include-asks q t)
         (λ q. by-test (Asks h) (leb Resetall d && leb d EndKeywords)
         (λ k. form-asks d keeps (λ v e q i. to-keep d a t k q i))

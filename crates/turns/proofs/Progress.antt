@@ -24,7 +24,7 @@ use Rattle.turns.specs.Turns.{hereAt, tokenTurn, turnAt}
 use Rattle.turns.specs.Runs.{power, measure}
 use Rattle.turns.specs.Asking.{Reading, EndsAt, Asks, to-refuse, to-leave, to-copy, to-skip, to-hide, to-branch, to-define, to-undefine, to-include, to-keep, to-spell, to-expand}
 use Rattle.turns.proofs.Turning.{by-turn, by-write}
-use Rattle.turns.proofs.Asking.{usage-ends, act-asks}
+use Rattle.turns.proofs.Asking.{word-ends, usage-ends, act-asks}
 
 -- ---- numbers
 
@@ -111,7 +111,7 @@ module _ (x : Context) (s : State) (f : Frame) (fs : List Frame) where
   act-goes ok (to-undefine {ms} {e} r t l i) = behind-less e r i
   act-goes ok (to-include {i} {e} a t n z) = pushed i e ok (a .reading) (n .entry-in) (n .depth-in) z
   act-goes ok (to-keep {v} {e} d a t k q i) = write-goes _ _ _ (behind-less e (a .reading) i)
-  act-goes ok (to-spell r t w) = write-goes _ _ _ (behind-less (here .token .end) r (record { past = omega arith; within = r .within }))
+  act-goes ok (to-spell r t w) = write-goes _ _ _ (behind-less (here .token .end) r (word-ends here r))
   act-goes ok (to-expand a t) =
       by-test Goes (eqb (expandHere here .stop) 0)
       (λ q. behind-less (usageEnd here) (a .reading) (usage-ends here (a .reading .within) q))

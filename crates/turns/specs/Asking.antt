@@ -40,6 +40,10 @@ pub record EndsAt (h : Here) (e : ℕ) : Type 0 where
   pub past : h .token .end ≤ e
   pub within : e ≤ length (h .body)
 
+-- .. if the word itself does
+abbrev pub EndsIn : Here → ℕ → Type 0
+EndsIn h e = h .token .end ≤ length (h .body) → EndsAt h e
+
 -- why a token or directive is refused
 pub data Refusal (h : Here) : ℕ → ℕ → Type 0 where
   of-token : eqb (h .token .bar) 0 ≡ false → Refusal h (h .token .bar) (h .token .at)

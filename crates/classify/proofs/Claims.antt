@@ -8,7 +8,7 @@ use Rattle.text.specs.Bytes.{bytes, same}
 use Rattle.lex.proofs.Computing.{computing}
 use Rattle.keywords.specs.Keywords.{keywords, reservedIn, isReserved}
 use Rattle.names.specs.Names.{numberIn, macroDirectives, stateDirectives, otherDirectives, otherOf, stateOf, directiveOf, versionOf}
-use Rattle.directive.specs.Words.{wordIn, wordAt}
+use Rattle.directive.specs.Words.{startIn, wordStart, wordAt}
 use Rattle.directive.specs.Forms.{versionForm, aloneValue, formAt}
 use Rattle.storing.specs.Stored.{piece, pieces, trimLeft, trimRight, stored}
 use Rattle.afresh.specs.Judging.{badIn, badText}
@@ -21,7 +21,7 @@ use Rattle.classify.specs.Answer.{outcomeOf, refusedLine, answerOf}
 
 -- opens every definition that the examples compute
 unfoldable outcome : ℕ
-unfolding computing same keywords reservedIn isReserved numberIn macroDirectives stateDirectives otherDirectives otherOf stateOf directiveOf versionOf wordIn wordAt versionForm aloneValue formAt piece pieces trimLeft trimRight stored badIn badText extentIn extentAt barsOf gapIn gapEnd openAt headAt parametersOf badFormals definitionAt pastDirective pastGrave wordsFrom wordsOf outcomeOf newlines lineAt refusedLine
+unfolding computing same keywords reservedIn isReserved numberIn macroDirectives stateDirectives otherDirectives otherOf stateOf directiveOf versionOf startIn wordStart wordAt versionForm aloneValue formAt piece pieces trimLeft trimRight stored badIn badText extentIn extentAt barsOf gapIn gapEnd openAt headAt parametersOf badFormals definitionAt pastDirective pastGrave wordsFrom wordsOf outcomeOf newlines lineAt refusedLine
 outcome = 0
 
 -- these words and no refusal

@@ -13,7 +13,7 @@ use Rattle.lex.specs.declared.Mode.{Mode}
 use Rattle.lex.specs.declared.Token.{Token}
 use Rattle.lex.specs.Classes.{isLegal}
 use Rattle.lex.specs.Faults.{fault, noFault, faultOf, worseOf}
-use Rattle.lex.specs.Tokens.{inFile, Newline, BlockComment, String, Name, Escaped, Number, is, isByte, isGap, tokenAt, tokens}
+use Rattle.lex.specs.Tokens.{inFile, Newline, String, Name, Escaped, Number, is, isByte, isGap, tokenAt, tokens}
 use Rattle.lex.proofs.Tests.{by-test}
 use Rattle.lex.proofs.Progress.{token-ends}
 use Rattle.lex.proofs.Listing.{by-tokens}
@@ -31,9 +31,10 @@ use Rattle.directive.specs.declared.Value.{Value}
 use Rattle.directive.specs.declared.Value.the-variants.{NetType, Drive, Version}
 use Rattle.directive.specs.declared.Form.{Form}
 use Rattle.directive.specs.declared.Form.the-variants as form
-use Rattle.directive.specs.Words.{wraps, wordIn, wordAt}
+use Rattle.directive.specs.Words.{wraps, wordStart, wordAt}
 use Rattle.directive.specs.Include.{rawFrom, rawEnd, behind, behindAt, angledBy, nameAt, includeIn, includeAt}
 use Rattle.directive.specs.Forms.{nameBy, nameForm, power, unitBy, unitAfter, magnitude, timeBy, timeAt, precisionBy, precisionForm, slashBy, slashForm, timescaleBy, timescaleForm, entry, nettypeBy, nettypeForm, driveBy, driveForm, versionBy, versionForm, namedBy, lineForm, includeForm, takesName, standsAlone, formAt}
+use Rattle.directive.proofs.Wording.{start-past, by-next}
 
 -- what is found, if anything, ends at i or later
 FoundPast : ℕ → Word → Type 0
@@ -60,16 +61,10 @@ FormPast i (form.Barred n p) = Unit {0}
 
 -- a word from j on
 found-past : (s : List ℕ) (j i : ℕ) → i ≤ j → FoundPast i (wordAt s j)
-unfolding FoundPast wordAt wordIn
-found-past s j =
-    by-tokens s (λ (m : Mode) (j : ℕ) (ts : List Token). (i : ℕ) → i ≤ j → FoundPast i (wordIn s ts)) (λ m j l i h. tt)
-    (λ m j l q i h. tt)
-    (λ m j l q r i h. let t = tokenAt m s j in
-    let p : j < t .end = token-ends m s j l in
-    by-test (FoundPast i) (not (eqb (t .bar) 0)) (λ e. tt)
-    (λ e. by-test (FoundPast i) (is Newline t) (λ e. tt)
-    (λ e. by-test (FoundPast i) (not (isGap t)) (λ e. omega arith)
-    (λ e. by-test (FoundPast i) (is BlockComment t && wraps s t) (λ e. tt) (λ e. r i (omega arith)))))) inFile j
+unfolding FoundPast
+found-past s j i h =
+    by-next s j (FoundPast i) tt (λ l n. tt)
+    (λ l. omega (arith, start-past s j, token-ends inFile s (wordStart s j) l))
 
 module _ (i : ℕ) where
   formed : (v : Value) (e : ℕ) → i ≤ e → FormPast i (form.Formed v e)

@@ -14,7 +14,7 @@ use Rattle.lex.specs.declared.Fault.{Fault}
 use Rattle.lex.specs.declared.Mode.{Mode}
 use Rattle.lex.specs.declared.Token.{Token}
 use Rattle.lex.specs.Classes.{isLegal}
-use Rattle.lex.specs.Tokens.{inFile, Newline, is, isGap, tokenAt, tokens}
+use Rattle.lex.specs.Tokens.{inFile, Newline, isGap, tokenAt, tokens}
 use Rattle.lex.specs.Faults.{faultOf, worseOf}
 use Rattle.lex.proofs.Tests.{by-test}
 use Rattle.lex.proofs.Listing.{tokens-out}

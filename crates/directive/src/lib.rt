@@ -2,12 +2,13 @@
 ghost use mathlib.Core.Path.{_≡_};
 ghost use Prim.Native.Nat.{_<_, _+_};
 ghost use lib.ListN.{length};
-ghost use Rattle.directive.specs.Words.{wordAt};
+ghost use Rattle.directive.specs.Words.{isBetween, wordStart, wordAt};
 ghost use Rattle.directive.specs.Include.{rawEnd, behindAt, nameAt, includeAt};
 ghost use Rattle.directive.specs.Include.{line as includeLine};
 ghost use Rattle.directive.specs.Forms.{nameForm, unitAfter, magnitude, timeAt, precisionForm, slashForm, timescaleForm, nettypeForm, driveForm, versionForm, includeForm, takesName, standsAlone, aloneValue, formAt, entry};
 ghost use Rattle.directive.specs.Forms.{power as powerOf};
 use lex::BLOCK_COMMENT;
+use lex::END;
 use lex::ESCAPED;
 use lex::Fault;
 use lex::NAME;
@@ -20,6 +21,7 @@ use lex::in_file;
 use lex::is_byte;
 use lex::is_gap;
 use lex::is_legal;
+use lex::is_white;
 use lex::scan_at;
 use lex::token_at;
 use lex::worse;
@@ -113,28 +115,48 @@ pub struct IncludeLine {
     pub other: bool,
 }
 
+// Whether the token `t` may stand between words of one line.
+fn is_between(s: &[u8], t: Token) -> bool
+    ensures { λ r. ⌜ r ≡ isBetween (now (s .entry)) t ⌝ }
+{
+    (t.bar == 0) & (is_gap(t) & !((t.kind == BLOCK_COMMENT) & holds_in(s, t.at, t.end, 10)))
+}
+
+// Where the next word from `at` on starts, or what stands there instead on this line.
+pub fn word_start(s: &[u8], at: usize) -> usize
+    ensures { λ r. ⌜ r ≡ wordStart (now (s .entry)) at ⌝ }
+{
+    let mut i = at;
+    while i < s.len() {
+        let b = s[i];
+        if (32 < b) & (b != 47) {
+            return i;
+        }
+        if is_white(b) {
+            i += 1;
+            continue;
+        }
+        let t = token_at(s, i, in_file());
+        if !is_between(s, t) {
+            return i;
+        }
+        i = t.end;
+    }
+    i
+}
+
 // The next word from `at` on.
 pub fn word_at(s: &[u8], at: usize) -> Word
     ensures { λ r. ⌜ r ≡ wordAt (now (s .entry)) at ⌝ }
 {
-    let mut i = at;
-    while i < s.len() {
-        let t = token_at(s, i, in_file());
-        if t.bar != 0 {
-            return Word::Barred(t.bar, t.at);
-        }
-        if t.kind == NEWLINE {
-            return Word::Missing;
-        }
-        if !is_gap(t) {
-            return Word::Found(t);
-        }
-        if (t.kind == BLOCK_COMMENT) & holds_in(s, t.at, t.end, 10) {
-            return Word::Missing;
-        }
-        i = t.end;
+    let t = token_at(s, word_start(s, at), in_file());
+    if t.bar != 0 {
+        return Word::Barred(t.bar, t.at);
     }
-    Word::Missing
+    if (t.kind == NEWLINE) | (is_gap(t) | (t.kind == END)) {
+        return Word::Missing;
+    }
+    Word::Found(t)
 }
 
 fn name_form(s: &[u8], at: usize) -> Form

@@ -1,3 +1,4 @@
 pub mod Lines
 pub mod Filling
 pub mod Tokens
+pub mod Levels

@@ -28,7 +28,7 @@ use Rattle.turns.specs.Acts.{copies, skips, conditionalAct, actAt}
 use Rattle.turns.specs.Performing.{perform}
 use Rattle.turns.specs.Turns.{tokenTurn, turnAt}
 use Rattle.turns.specs.Leading.{Leads, standing}
-use Rattle.reading.proofs.Lining.{or-left, or-right}
+use Rattle.places.proofs.Levels.{or-left, or-right}
 
 -- ---- what a token does
 

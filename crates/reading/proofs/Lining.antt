@@ -1,88 +1,29 @@
 -- A conditional word with its name stands on one line, in its file.
 -- Assumes nothing.
-use Prim.Native.Nat.{ℕ, _-_, _<_, _≤_}
-use mathlib.Core.Bool.{Bool, true, false, cond, not, _&&_, _||_}
-use mathlib.Core.List.{List, [], _∷_}
+use Prim.Native.Nat.{ℕ, _≤_}
+use mathlib.Core.Bool.{Bool, true, false, cond, not, _||_}
+use mathlib.Core.List.{List}
 use mathlib.Core.Option.{Option, none, some}
-use mathlib.Core.Path.{_≡_, refl, sym, ap, subst, _∙_}
+use mathlib.Core.Path.{_≡_, refl, sym, subst}
 use native.Mathlib.Omega.{arith}
 use lib.Dec.{eqb}
 use lib.ListN.{length}
-use borrow.Author.Tests.{eqb-true, eqb-false}
-use Rattle.text.specs.Bytes.{holds, part}
+use borrow.Author.Tests.{eqb-false, not-true}
 use Rattle.lex.specs.Tokens.{inFile, Newline, BlockComment, String, Name, Escaped, White, LineComment, Continuation, is, isGap, tokenAt}
-use Rattle.lex.specs.declared.Mode.{Mode}
-use Rattle.lex.specs.declared.Token.{Token}
-use Rattle.lex.proofs.Tests.{by-test, true-false}
-use Rattle.lex.proofs.Progress.{Inside, token-at, token-ends, token-within}
-use Rattle.lex.proofs.Listing.{by-tokens, mode-define}
+use Rattle.lex.proofs.Tests.{by-test, and-left, and-right}
 use Rattle.names.specs.Names.{Ifdef, Ifndef, Elsif, Else, Endif}
-use Rattle.places.specs.Places.{newlines}
-use Rattle.places.proofs.Lines.{line-past}
-use Rattle.places.proofs.Tokens.{outside-flat}
+use Rattle.places.proofs.Levels.{Level, level-here, level-on, other-kind, token-level}
 use Rattle.directive.specs.declared.Word.{Word}
 use Rattle.directive.specs.declared.Word.the-variants as word
 use Rattle.directive.specs.declared.Value.{Value}
 use Rattle.directive.specs.declared.Form.{Form}
 use Rattle.directive.specs.declared.Form.the-variants as form
-use Rattle.directive.specs.Words.{wraps, wordIn, wordAt}
+use Rattle.directive.specs.Words.{wordStart, wordAt}
 use Rattle.directive.specs.Forms.{nameBy, nameForm, takesName, formAt}
+use Rattle.directive.proofs.Wording.{by-start, by-next}
 use Rattle.blocks.specs.Blocks.{Conditional, openBlock, nextBlock, closeBlock}
 use Rattle.turns.specs.States.{Here}
 use Rattle.turns.specs.Acts.{Act, refuses, branches, onForm, isDefined, onBlocks, conditionAct, conditionalAct}
-use Rattle.turns.proofs.Inside.{inside-here, inside-on}
-
-pub or-left : (a b : Bool) → (a || b) ≡ false → a ≡ false
-or-left true b e = e
-or-left false b e = refl
-
-pub or-right : (a b : Bool) → (a || b) ≡ false → b ≡ false
-or-right true b e = true-false true refl e
-or-right false b e = e
-
--- e lies at i or past it in the text, with no newline between
-pub record Level (s : List ℕ) (i e : ℕ) : Type 0 where
-  pub inside : Inside s i e
-  pub flat : newlines (part s i e) ≡ 0
-
-level-here : (s : List ℕ) (i : ℕ) → i ≤ length s → Level s i i
-unfolding newlines
-level-here s i h = let z : i - i ≡ 0 = omega arith in record { inside = inside-here s i h; flat = rw z }
-
-pub level-on : {s : List ℕ} {i j e : ℕ} → Level s i j → Level s j e → Level s i e
-level-on {s} {i} {j} {e} a b =
-    let p = a .inside in
-    let q = b .inside in
-    let r : Inside s i e = inside-on p q in
-    record {
-      inside = r;
-      flat =
-          omega
-          (arith, a .flat, b .flat, line-past s i j (p .past) (p .within), line-past s j e (q .past) (q .within), line-past s i e (r .past) (r .within));
-    }
-
-holds-none : (w : List ℕ) → holds 10 w ≡ false → newlines w ≡ 0
-unfolding holds newlines
-holds-none [] e = refl
-holds-none (x ∷ xs) e = rw (or-left (eqb x 10) _ e) (holds-none xs (or-right (eqb x 10) _ e))
-
--- a kind that passes a test that b does not pass is not b
-pub other-kind : (p : ℕ → Bool) (b : ℕ) → p b ≡ false → (k : ℕ) → p k ≡ true → eqb k b ≡ false
-other-kind p b z k e = go (eqb k b) refl
-  where
-    go : (t : Bool) → eqb k b ≡ t → eqb k b ≡ false
-    go true q = true-false (p k) e (ap p (eqb-true k b q) ∙ z)
-    go false q = q
-
--- a token that does not go over a line's end
-module _ (m : Mode) (d : m .define ≡ false) (s : List ℕ) (i : ℕ) (h : i < length s) where
-  pub token-level : is Newline (tokenAt m s i) ≡ false → is String (tokenAt m s i) ≡ false → (is BlockComment (tokenAt m s i) && wraps s (tokenAt m s i)) ≡ false
-      → Level s i (tokenAt m s i .end)
-  token-level n t w = record { inside = record { past = omega (arith, token-ends m s i h); within = token-within m s i h }; flat = go (is BlockComment (tokenAt m s i)) refl }
-    where
-      go : (b : Bool) → is BlockComment (tokenAt m s i) ≡ b → newlines (part s i (tokenAt m s i .end)) ≡ 0
-      go true q = subst (λ (j : ℕ). newlines (part s j (tokenAt m s i .end)) ≡ 0) (token-at m s i) (holds-none (part s (tokenAt m s i .at) (tokenAt m s i .end)) (rw q at w))
-      go false q = outside-flat m d s i h n t q
 
 -- ---- words and forms
 
@@ -99,24 +40,27 @@ FormOn s i (form.Barred n p) = Unit {0}
 abbrev gapKind : ℕ → Bool
 gapKind k = eqb k White || (eqb k LineComment || (eqb k BlockComment || eqb k Continuation))
 
-not-not : (b : Bool) → not b ≡ false → b ≡ true
-not-not true e = refl
-not-not false e = true-false true refl e
+abbrev nameKind : ℕ → Bool
+nameKind k = eqb k Name || eqb k Escaped
 
 module _ (s : List ℕ) (i : ℕ) where
+  start-on : (j : ℕ) → Level s i j → Level s i (wordStart s j)
+  start-on j =
+      by-start s (Level s i)
+      (λ k l e h. let t = tokenAt inFile s k in
+      let a = and-right (eqb (t .bar) 0) _ e in
+      let b = and-left (isGap t) _ a in
+      level-on h
+      (token-level inFile refl s k l (other-kind gapKind Newline refl (t .kind) b) (other-kind gapKind String refl (t .kind) b) (not-true _ (and-right (isGap t) _ a)))) j
+
   found-on : (j : ℕ) → Level s i j → FoundOn s i (wordAt s j)
-  unfolding FoundOn wordAt wordIn
-  found-on j =
-      by-tokens s (λ (m : Mode) (j : ℕ) (ts : List Token). m .define ≡ false → Level s i j → FoundOn s i (wordIn s ts)) (λ m j l d h. tt)
-      (λ m j l q d h. tt)
-      (λ m j l q r d h. let t = tokenAt m s j in
-      by-test (FoundOn s i) (not (eqb (t .bar) 0)) (λ e. tt)
-      (λ e. by-test (FoundOn s i) (is Newline t) (λ e. tt)
-      (λ n. by-test (FoundOn s i) (not (isGap t))
-      (λ e. λ k. level-on h (token-level m d s j l n (other-kind (λ b. eqb b Name || eqb b Escaped) String refl (t .kind) k)
-      (rw (other-kind (λ b. eqb b Name || eqb b Escaped) BlockComment refl (t .kind) k))))
-      (λ g. by-test (FoundOn s i) (is BlockComment t && wraps s t) (λ e. tt)
-      (λ w. r (mode-define m t ∙ d) (level-on h (token-level m d s j l n (other-kind gapKind String refl (t .kind) (not-not (isGap t) g)) w))))))) inFile j refl
+  unfolding FoundOn
+  found-on j h =
+      let t = tokenAt inFile s (wordStart s j) in
+      by-next s j (FoundOn s i) tt (λ l e. tt)
+      (λ l k. level-on (start-on j h)
+      (token-level inFile refl s (wordStart s j) l (other-kind nameKind Newline refl (t .kind) k) (other-kind nameKind String refl (t .kind) k)
+      (rw (other-kind nameKind BlockComment refl (t .kind) k))))
 
   name-by : (w : Word) → FoundOn s i w → FormOn s i (nameBy w)
   unfolding FoundOn FormOn

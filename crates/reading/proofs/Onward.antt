@@ -43,7 +43,8 @@ use Rattle.choosing.specs.declared.Chosen.the-variants as chosen
 use Rattle.reading.specs.declared.Reached.{Reached}
 use Rattle.reading.specs.declared.Reached.the-variants as reached
 use Rattle.reading.specs.Reading.{SkippedBy, PassedBy, ReadsTo, ReachedBy, StaysBy}
-use Rattle.reading.proofs.Lining.{or-left, or-right, Level, level-on, other-kind, token-level, word-level}
+use Rattle.places.proofs.Levels.{or-left, or-right, Level, level-on, other-kind, token-level}
+use Rattle.reading.proofs.Lining.{word-level}
 use Rattle.reading.proofs.Leading.{hereOn, full-turn, barred-turn, word-turn, copies-lead, skips-lead, copies-onward, skips-onward, word-inside, word-grave}
 
 -- the tests for a conditional word

@@ -1,7 +1,7 @@
 -- Opens every definition that a hand-over is flattened by, for worked examples: `unfolding flattening`.
 -- Assumes nothing.
 use Prim.Native.Nat.{ℕ}
-use Rattle.directive.specs.Words.{wordIn, wordAt}
+use Rattle.directive.specs.Words.{startIn, wordStart, wordAt}
 use Rattle.directive.specs.Forms.{nameForm, aloneValue, formAt}
 use Rattle.definition.proofs.Computing.{defining}
 use Rattle.store.specs.Stores.{define, undefine, encode, fits}
@@ -18,5 +18,5 @@ use Rattle.turns.specs.Turns.{turnAt}
 use Rattle.turns.specs.Runs.{runFor, power, measure, runFrom, flattened}
 
 unfoldable pub flattening : ℕ
-unfolding defining expanding wordIn wordAt nameForm aloneValue formAt define undefine encode fits parameterForms headForm formOf allStarts startedFrom startsFit newlines lineAt decimal openBlock nextBlock closeBlock cursorPast cursorBehind nameBytes isFileName isEntry allEntries entryOf isSound conditionalAct takenAct actAt turnAt runFor power measure runFrom flattened
+unfolding defining expanding startIn wordStart wordAt nameForm aloneValue formAt define undefine encode fits parameterForms headForm formOf allStarts startedFrom startsFit newlines lineAt decimal openBlock nextBlock closeBlock cursorPast cursorBehind nameBytes isFileName isEntry allEntries entryOf isSound conditionalAct takenAct actAt turnAt runFor power measure runFrom flattened
 flattening = 0

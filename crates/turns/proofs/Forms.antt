@@ -8,14 +8,13 @@ use mathlib.Core.Path.{_≡_, subst}
 use native.Mathlib.Omega.{arith}
 use lib.Dec.{eqb, ltb}
 use lib.ListN.{length, drop, length-drop}
-use borrow.Author.Tests.{not-true}
 use Rattle.text.specs.Bytes.{bytes, begins, part}
 use Rattle.lex.specs.declared.Fault.{Fault}
 use Rattle.lex.specs.declared.Mode.{Mode}
 use Rattle.lex.specs.declared.Token.{Token}
 use Rattle.lex.specs.Classes.{isLegal}
 use Rattle.lex.specs.Faults.{fault, noFault, faultOf, worseOf}
-use Rattle.lex.specs.Tokens.{inFile, Newline, BlockComment, String, Name, Escaped, Number, is, isByte, isGap, tokenAt, tokens}
+use Rattle.lex.specs.Tokens.{inFile, Newline, String, Name, Escaped, Number, is, isByte, isGap, tokenAt, tokens}
 use Rattle.lex.proofs.Tests.{by-test}
 use Rattle.lex.proofs.Progress.{Inside, token-at}
 use Rattle.lex.proofs.Barring.{Barring, numbered-none, illegal-bar, token-bars}
@@ -34,9 +33,10 @@ use Rattle.directive.specs.declared.Value.{Value}
 use Rattle.directive.specs.declared.Value.the-variants.{NetType, Drive, Version}
 use Rattle.directive.specs.declared.Form.{Form}
 use Rattle.directive.specs.declared.Form.the-variants as form
-use Rattle.directive.specs.Words.{wraps, wordIn, wordAt}
+use Rattle.directive.specs.Words.{wraps, wordStart, wordAt}
 use Rattle.directive.specs.Include.{rawFrom, rawEnd, line, behind, behindAt, angledBy, nameAt, includeIn, includeAt}
 use Rattle.directive.specs.Forms.{nameBy, nameForm, power, unitBy, unitAfter, magnitude, timeBy, timeAt, precisionBy, precisionForm, slashBy, slashForm, timescaleBy, timescaleForm, entry, nettypeBy, nettypeForm, driveBy, driveForm, versionBy, versionForm, namedBy, lineForm, includeForm, takesName, standsAlone, formAt}
+use Rattle.directive.proofs.Wording.{start-past, by-next}
 use Rattle.turns.proofs.Inside.{inside-here, token-in}
 
 -- one of 2 to 6, at a place in the text s or at its end
@@ -105,16 +105,12 @@ module _ (s : List ℕ) where
     -- ---- words, and forms by the next word
 
     word-in : (j : ℕ) → i ≤ j → WordIn (wordAt s j)
-    unfolding WordIn wordAt wordIn
-    word-in j =
-        by-tokens s (λ (m : Mode) (j : ℕ) (ts : List Token). i ≤ j → WordIn (wordIn s ts)) (λ m j l h. tt) (λ m j l q h. tt)
-        (λ m j l q r h. let t = tokenAt m s j in
-        let p : Inside s i (t .end) = token-in m s i j h l in
-        by-test WordIn (not (eqb (t .bar) 0))
-        (λ e. fault-barred s (faultOf t) (token-fault m j (omega arith)) (not-true (eqb (t .bar) 0) e))
-        (λ e. by-test WordIn (is Newline t) (λ e. tt)
-        (λ e. by-test WordIn (not (isGap t)) (λ e. p)
-        (λ e. by-test WordIn (is BlockComment t && wraps s t) (λ e. tt) (λ e. r (p .past)))))) inFile j
+    unfolding WordIn
+    word-in j h =
+        let k = wordStart s j in
+        let t = tokenAt inFile s k in
+        by-next s j WordIn tt (λ l e. fault-barred s (faultOf t) (token-fault inFile k (omega arith)) e)
+        (λ l. token-in inFile s i k (omega (arith, start-past s j)) l)
 
     module _ (by : Word → Form) (found : (t : Token) → Inside s i (t .end) → FormIn (by (word.Found t)))
         (missing : FormIn (by word.Missing)) (stopped : (n p : ℕ) → BarredIn s n p → FormIn (by (word.Barred n p))) where

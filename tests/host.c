@@ -110,6 +110,13 @@ static void sizes(void) {
     expect("deep brackets", run(text, LARGEST, 3, words, 1), 0, 0, 0, 0);
     text[12 + deep] = '?';
     expect("deep brackets unmatched", run(text, LARGEST, 3, words, 1), 21, 1, 10, 1);
+    /* a condition of one line: with its `)` a directive, without it only its word is skipped */
+    memset(text, '!', LARGEST);
+    memcpy(text, "`ifdef (", 8);
+    memcpy(text + LARGEST - 2, "A)", 2);
+    expect("a long condition", run(text, LARGEST, 3, words, 1), 0, 0, 0, 0);
+    text[LARGEST - 1] = ' ';
+    expect("a long condition unclosed", run(text, LARGEST, 3, words, 1), 0, 0, 0, 1);
     static const uint32_t none_of_the_four[] = {4, 5, 1000, 0x7FFFFFFF, 0x80000000, 0xFFFFFFFF};
     for (size_t i = 0; i < sizeof none_of_the_four / sizeof *none_of_the_four; i++)
         expect("a set that is none", run(text, 5, none_of_the_four[i], words, 1), 1, 0, 0, 0);

@@ -10,7 +10,12 @@ fn print_usage() {
         b"       arborstitch lookup NAME [OPTION ...] ROOT [FILE ...] show a macro that ROOT leaves\n",
     );
     say(b"       arborstitch words [--set SET] FILE                   list the words of a text\n");
-    say(b"\nFILEs are what `include may name, by their paths as written.\n\n");
+    say(
+        b"\nFILEs are what `include may name, by their paths as written. `ifdef, `ifndef and `elsif take a name\n",
+    );
+    say(
+        b"or a condition: `ifdef (FAST && !(WIDE || SPARE)), with ! && || -> <-> and parentheses.\n\n",
+    );
 }
 
 fn print_options() {

@@ -1,23 +1,22 @@
 // Conditional words (document 01, "Directives"): which blocks are open, and whether text is taken, behind one.
 ghost use mathlib.Core.Path.{_≡_};
-ghost use mathlib.Core.Bool.{true, false};
-ghost use mathlib.Core.List.{List};
+ghost use mathlib.Core.Bool.{false};
 ghost use lib.Dec.{eqb};
-ghost use Prim.Native.Nat.{ℕ, _≤_};
-ghost use Rattle.names.specs.Names.{Else, Endif};
-ghost use Rattle.directive.specs.Forms.{formAt, takesName};
-ghost use Rattle.definition.specs.Definitions.{Macro};
-ghost use Rattle.store.specs.Stores.{find as findName};
-ghost use Rattle.store.specs.Buffers.{Holds};
+ghost use Prim.Native.Nat.{ℕ};
+ghost use Rattle.names.specs.Names.{Undef, Else, Endif};
+ghost use Rattle.directive.specs.Forms.{formAt};
+ghost use Rattle.store.specs.Buffers.{Stored};
 ghost use Rattle.blocks.specs.Stacks.{BlocksIn};
 ghost use Rattle.turns.specs.States.{Here};
-ghost use Rattle.turns.specs.Acts.{isAt, conditionalAct};
+ghost use Rattle.turns.specs.Acts.{conditionalAct};
 ghost use Rattle.choosing.specs.Choosing.{NamedBy, choiceBy, Word, ChosenBy};
 use blocks::Blocks;
 use blocks::Changed;
 use blocks::close_block;
 use blocks::next_block;
 use blocks::open_block;
+use conditions::Condition;
+use conditions::condition_at;
 use directive::Form;
 use directive::Value;
 use directive::form_at;
@@ -26,9 +25,7 @@ use names::ELSE;
 use names::ELSIF;
 use names::ENDIF;
 use names::IFDEF;
-use store::Found;
-use store::find;
-use text::part_of;
+use names::UNDEF;
 
 // A macro's name in a directive, from and end, and the directive's end; or refused, with the place.
 pub enum Named {
@@ -42,23 +39,11 @@ pub enum Chosen {
     Refused(usize, usize),
 }
 
-// Whether a macro of the name `w` is defined.
-pub fn is_defined(bytes: &[u8], records: &[[u32; 4]], macros: usize, w: &[u8]) -> bool
-    ensures { λ r. ⌜ ((ms : List Macro) → Holds ms (now (bytes .entry)) (now (records .entry)) macros → r ≡ isAt (findName (now (w .entry)) ms)) ⌝ }
+// The name behind the word `t` of an `undef`.
+pub fn name_after(s: &[u8], t: Token) -> Named
+    ensures { λ r. ⌜ NamedBy r (formAt Undef (now (s .entry)) (t .end)) (now (s .entry)) (t .at) ⌝ }
 {
-    let f = find(bytes, records, macros, w);
-    match f {
-        Found::At(_) => true,
-        Found::Missing(_) => false,
-    }
-}
-
-// The name behind the word `t` of the directive `d`, which takes one.
-pub fn name_after(d: usize, s: &[u8], t: Token) -> Named
-    requires { ⌜ takesName d ≡ true ⌝ }
-    ensures { λ r. ⌜ NamedBy r (formAt d (now (s .entry)) (t .end)) (now (s .entry)) (t .at) ⌝ }
-{
-    let f = form_at(d, s, t.end);
+    let f = form_at(UNDEF, s, t.end);
     match f {
         Form::Formed(v, e) => match v {
             Value::MacroName(a, b) => Named::Name(a, b, e),
@@ -87,7 +72,7 @@ fn chosen_by(r: Changed, e: usize, at: usize) -> Chosen
 }
 
 // `ifdef`, `ifndef` and `elsif`.
-fn choose_by_name(
+fn choose_by_condition(
     d: usize,
     s: &[u8],
     t: Token,
@@ -98,13 +83,12 @@ fn choose_by_name(
     macros: usize,
     k: Blocks,
 ) -> Chosen
-    requires { ⌜ BlocksIn (now conds) k × (takesName d ≡ true) × (eqb d Else ≡ false) × (eqb d Endif ≡ false) ⌝ }
+    requires { ⌜ BlocksIn (now conds) k × Stored (now bytes) (now records) macros × (eqb d Else ≡ false) × (eqb d Endif ≡ false) ⌝ }
     ensures { λ r. ⌜ ((h : Here) → Word h (now (s .entry)) t file (now (conds .entry)) k (now (bytes .entry)) (now (records .entry)) macros → ChosenBy r (conditionalAct d h) (now (conds .entry)) (now (conds .exit))) ⌝ }
 {
-    let f = name_after(d, s, t);
-    match f {
-        Named::Name(a, b, e) => {
-            let is = is_defined(bytes, records, macros, part_of(s, a, b));
+    let c = condition_at(s, t, bytes, records, macros);
+    match c {
+        Condition::Truth(is, e) => {
             if d == ELSIF {
                 return chosen_by(next_block(conds, k, is, false), e, t.at);
             }
@@ -113,7 +97,7 @@ fn choose_by_name(
             }
             chosen_by(open_block(conds, k, file, t.at, !is), e, t.at)
         }
-        Named::Refused(n, p) => Chosen::Refused(n, p),
+        Condition::Refused(n, p) => Chosen::Refused(n, p),
     }
 }
 
@@ -129,7 +113,7 @@ pub fn choose(
     macros: usize,
     k: Blocks,
 ) -> Chosen
-    requires { ⌜ BlocksIn (now conds) k × (6 ≤ d) × (d ≤ 10) ⌝ }
+    requires { ⌜ BlocksIn (now conds) k × Stored (now bytes) (now records) macros ⌝ }
     ensures { λ r. ⌜ ((h : Here) → Word h (now (s .entry)) t file (now (conds .entry)) k (now (bytes .entry)) (now (records .entry)) macros → ChosenBy r (conditionalAct d h) (now (conds .entry)) (now (conds .exit))) ⌝ }
 {
     if d == ENDIF {
@@ -138,5 +122,5 @@ pub fn choose(
     if d == ELSE {
         return chosen_by(next_block(conds, k, true, true), t.end, t.at);
     }
-    choose_by_name(d, s, t, file, conds, bytes, records, macros, k)
+    choose_by_condition(d, s, t, file, conds, bytes, records, macros, k)
 }

@@ -16,6 +16,8 @@ use Rattle.lex.proofs.Barring.{token-bars}
 use Rattle.names.specs.Names.{Ifdef, Ifndef}
 use Rattle.directive.specs.Include.{includeAt}
 use Rattle.store.specs.Stores.{define, fits}
+use Rattle.conditions.specs.Grammar.{isDefined}
+use Rattle.conditions.proofs.Parts.{condition-refused}
 use Rattle.settings.specs.declared.Settings.{Settings}
 use Rattle.writing.specs.Written.{Written, full}
 use Rattle.blocks.specs.Blocks.{Conditional, openBlock, nextBlock, closeBlock}
@@ -30,13 +32,14 @@ use Rattle.turns.specs.Turns.{hereAt, turnAt}
 use Rattle.turns.specs.Through.{Through, start, next}
 use Rattle.turns.specs.Runs.{contextOf, startOf}
 use Rattle.turns.proofs.Lines.{Reads, Framed, through-framed, start-framed}
-use Rattle.turns.specs.Asking.{Named, Refusal, of-token, of-form, of-definition, of-line, of-rule, Opens, by-ifdef, by-ifndef, by-elsif, by-else, by-endif, Asks, to-refuse, to-leave, to-copy, to-skip, to-hide, to-branch, to-define, to-undefine, to-include, to-keep, to-spell, to-expand}
+use Rattle.turns.specs.Asking.{Named, Refusal, of-token, of-form, of-condition, of-definition, of-line, of-rule, Opens, by-ifdef, by-ifndef, by-elsif, by-else, by-endif, Asks, to-refuse, to-leave, to-copy, to-skip, to-hide, to-branch, to-define, to-undefine, to-include, to-keep, to-spell, to-expand}
 use Rattle.turns.proofs.Turning.{by-turn, by-write}
 use Rattle.turns.proofs.Asking.{act-asks}
 use Rattle.claims.specs.Files.{Accented}
 use Rattle.claims.specs.NothingDropped.{Opener}
 use Rattle.claims.proofs.Files.{accented-at}
 use Rattle.turns.proofs.Forms.{BarredIn, fault-barred, include-fault, form-bars}
+use Rattle.turns.proofs.Inside.{token-inside}
 use Rattle.turns.proofs.Definitions.{definition-bars}
 use Rattle.claims.proofs.RefusedUsages.{ExpansionIn, PutBars, put-bars, expand-in}
 
@@ -117,6 +120,9 @@ module _ (x : Context) (s : State) (f : Frame) (fs : List Frame) (r : Reads x f)
   refusal-good n p (of-token e) =
       let b = token-bars body (f .cursor .at) inFile in refuse-here (token .bar) (b .least e) (omega (arith, b .most))
   refusal-good n p (of-form d q) = refuse-barred n p (form-bars body d (token .end) n p q)
+  refusal-good n p (of-condition q) =
+      let h = condition-refused body (isDefined (s .macros)) token token-in (token-inside inFile body (f .cursor .at) (r .inside) .within) n p q in
+      refuse-at n p (h .low) (omega (arith, h .high)) (h .place-in)
   refusal-good n p (of-definition q) = refuse-barred n p (definition-bars body (token .end) n p q)
   refusal-good n p (of-line e) =
       let l = includeAt body (token .end) in
@@ -132,9 +138,9 @@ module _ (x : Context) (s : State) (f : Frame) (fs : List Frame) (r : Reads x f)
       (λ m e. cs)
 
   opens-in : (d e : ℕ) (o : Option (List Conditional)) → Named here d → Opens here d e o → OpenIn x o
-  opens-in d e o a (by-ifdef v q i) = open-in x (f .file) (token .at) _ (s .conds) d (accented-at x s f fs r a) (rw q) cs
-  opens-in d e o a (by-ifndef v q i) = open-in x (f .file) (token .at) _ (s .conds) d (accented-at x s f fs r a) (rw q) cs
-  opens-in d e o a (by-elsif v q i) = next-in x _ false (s .conds) cs
+  opens-in d e o a (by-ifdef q i) = open-in x (f .file) (token .at) _ (s .conds) d (accented-at x s f fs r a) (rw q) cs
+  opens-in d e o a (by-ifndef q i) = open-in x (f .file) (token .at) _ (s .conds) d (accented-at x s f fs r a) (rw q) cs
+  opens-in d e o a (by-elsif q i) = next-in x _ false (s .conds) cs
   opens-in d e o a (by-else q) = next-in x true true (s .conds) cs
   opens-in d e o a (by-endif q) = close-in x (s .conds) cs
 

@@ -1,12 +1,13 @@
 -- The claim over flatten, classify and pass.
 -- Assumes nothing.
 use Rattle.handover.specs.Sizes.{HandOver, Rooms}
+use Rattle.conditions.proofs.Forms.{same-form}
 use Rattle.turns.specs.Runs.{contextOf}
 use Rattle.turns.proofs.Claims as example
 use Rattle.turns.proofs.Rooms.{text-fits, map-fits, map-lines}
 use Rattle.turns.proofs.Lines.{map-places}
 use Rattle.classify.proofs.Claims as words
-use Rattle.claims.specs.Claim.{Bench, Always, Claim}
+use Rattle.claims.specs.Claim.{Bench, Conditions, Always, Claim}
 use Rattle.claims.proofs.NothingDropped.{nothing-dropped}
 use Rattle.claims.proofs.Demands.{demand-three}
 use Rattle.claims.proofs.Growing.{larger-grows}
@@ -28,6 +29,9 @@ bench =
       unreserved = words.unreserved;
     }
 
+pub conditions : Conditions
+conditions = record { four-deep = example.four-deep; one-form = same-form }
+
 pub always : (h : HandOver) (r : Rooms) → Always h r
 always h r =
     record {
@@ -46,4 +50,4 @@ always h r =
     }
 
 pub whole : Claim
-whole = record { bench = bench; always = always; demand-three = demand-three }
+whole = record { bench = bench; conditions = conditions; always = always; demand-three = demand-three }

@@ -1,17 +1,20 @@
--- The claim over flatten, classify and pass: 01's starred bench examples, what holds of every hand-over, and demand 3.
+-- The claim over flatten, classify and pass: 01's starred bench examples, conditions, what holds of every hand-over, and demand 3.
 -- Assumes nothing.
 use Prim.Native.Nat.{ℕ, _≤_}
-use mathlib.Core.Bool.{true, false}
+use mathlib.Core.Bool.{Bool, true, false}
 use mathlib.Core.List.{List, [], _∷_}
 use mathlib.Core.Path.{_≡_}
 use lib.Dec.{eqb}
 use lib.ListN.{length, getD}
 use Rattle.text.specs.Bytes.{bytes}
+use Rattle.lex.specs.declared.Token.{Token}
+use Rattle.conditions.specs.Grammar.{conditionAt}
+use Rattle.conditions.specs.Forms.{SameForm}
 use Rattle.handover.specs.Sizes.{HandOver, Rooms, isSound}
 use Rattle.turns.specs.Runs.{contextOf, startOf, flattened}
 use Rattle.turns.specs.Lines.{linesIn}
 use Rattle.turns.specs.Mapping.{InFile, All}
-use Rattle.turns.specs.Examples.{says, flat}
+use Rattle.turns.specs.Examples.{says, flat, Variant, textIn, fourDeep, oneCondition}
 use Rattle.classify.specs.Words.{Words}
 use Rattle.classify.specs.Answer.{outcomeOf}
 use Rattle.claims.specs.Growing.{Larger, Grows}
@@ -35,6 +38,13 @@ pub record Bench : Type 0 where
   pub hidden : flat "`ifdef X\n`define Y `endif\na\n`endif\nb\n" ≡ says 0 0 0 (bytes "\nb\n")
   pub reserved : outcomeOf 3 (bytes "logic") 1 ≡ only ((0 ∷ 5 ∷ 1 ∷ []) ∷ [])
   pub unreserved : outcomeOf 1 (bytes "logic") 1 ≡ only ((0 ∷ 5 ∷ 0 ∷ []) ∷ [])
+
+-- conditions with operators (02, P1)
+pub record Conditions : Type 0 where
+  -- "Our variants nest four deep for want of this": in each of the sixteen variants one condition gives the same text
+  pub four-deep : (v : Variant) → textIn v fourDeep ≡ textIn v oneCondition
+  -- where a condition ends, and whether and where it is refused, does not depend on what is defined
+  pub one-form : (s : List ℕ) (d d′ : List ℕ → Bool) (t : Token) → SameForm (conditionAt s d t) (conditionAt s d′ t)
 
 -- of the outcome of a hand-over in these rooms
 pub record Always (h : HandOver) (r : Rooms) : Type 0 where
@@ -60,5 +70,6 @@ pub record Always (h : HandOver) (r : Rooms) : Type 0 where
 
 pub record Claim : Type 0 where
   pub bench : Bench
+  pub conditions : Conditions
   pub always : (h : HandOver) (r : Rooms) → Always h r
   pub demand-three : DemandThree

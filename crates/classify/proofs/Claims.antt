@@ -8,8 +8,9 @@ use Rattle.text.specs.Bytes.{bytes, same}
 use Rattle.lex.proofs.Computing.{computing}
 use Rattle.keywords.specs.Keywords.{keywords, reservedIn, isReserved}
 use Rattle.names.specs.Names.{numberIn, macroDirectives, stateDirectives, otherDirectives, otherOf, stateOf, directiveOf, versionOf}
-use Rattle.directive.specs.Words.{startIn, wordStart, wordAt}
+use Rattle.directive.specs.Words.{wordAt}
 use Rattle.directive.specs.Forms.{versionForm, aloneValue, formAt}
+use Rattle.conditions.proofs.Computing.{conditioning}
 use Rattle.storing.specs.Stored.{piece, pieces, trimLeft, trimRight, stored}
 use Rattle.afresh.specs.Judging.{badIn, badText}
 use Rattle.definition.specs.Extents.{extentIn, extentAt, barsOf}
@@ -21,7 +22,7 @@ use Rattle.classify.specs.Answer.{outcomeOf, refusedLine, answerOf}
 
 -- opens every definition that the examples compute
 unfoldable outcome : ℕ
-unfolding computing same keywords reservedIn isReserved numberIn macroDirectives stateDirectives otherDirectives otherOf stateOf directiveOf versionOf startIn wordStart wordAt versionForm aloneValue formAt piece pieces trimLeft trimRight stored badIn badText extentIn extentAt barsOf gapIn gapEnd openAt headAt parametersOf badFormals definitionAt pastDirective pastGrave wordsFrom wordsOf outcomeOf newlines lineAt refusedLine
+unfolding computing same keywords reservedIn isReserved numberIn macroDirectives stateDirectives otherDirectives otherOf stateOf directiveOf versionOf conditioning wordAt versionForm aloneValue formAt piece pieces trimLeft trimRight stored badIn badText extentIn extentAt barsOf gapIn gapEnd openAt headAt parametersOf badFormals definitionAt pastDirective pastGrave wordsFrom wordsOf outcomeOf newlines lineAt refusedLine
 outcome = 0
 
 -- these words and no refusal
@@ -52,6 +53,15 @@ defined = refl
 pub ill-formed : outcomeOf 3 (bytes "`begin_keywords logic") 2 ≡ only ((16 ∷ 5 ∷ 1 ∷ []) ∷ [])
 unfolding outcome
 ill-formed = refl
+
+-- a condition gives no words; of an ill-formed one only the directive's word is skipped
+pub condition : outcomeOf 3 (bytes "`ifdef (A && logic) x") 2 ≡ only ((20 ∷ 1 ∷ 0 ∷ []) ∷ [])
+unfolding outcome
+condition = refl
+
+pub ill-condition : outcomeOf 3 (bytes "`ifdef (A & logic)") 2 ≡ only ((8 ∷ 1 ∷ 0 ∷ []) ∷ (12 ∷ 5 ∷ 1 ∷ []) ∷ [])
+unfolding outcome
+ill-condition = refl
 
 -- a grave accent that begins no token: 4, on its line and at its byte, behind the words before it
 pub stray-grave : answerOf (bytes "a\n`") (outcomeOf 3 (bytes "a\n`") 2) ≡ record { number = 4; line = 2; byte = 2; words = 1 }

@@ -1,7 +1,8 @@
 -- Past a grave accent name: never back before its end; and a definition as it was judged.
 -- Assumes nothing.
 use Prim.Native.Nat.{ℕ, _≤_}
-use mathlib.Core.List.{List}
+use mathlib.Core.Bool.{Bool}
+use mathlib.Core.List.{List, []}
 use mathlib.Core.Path.{_≡_, refl, sym, ap, subst, _∙_}
 use native.Mathlib.Omega.{arith}
 use lib.Dec.{eqb}
@@ -19,9 +20,13 @@ use Rattle.definition.specs.Answers.{judgedOf}
 use Rattle.definition.specs.declared.Judged.{Judged}
 use Rattle.definition.specs.declared.Judged.the-variants as judged
 use Rattle.definition.proofs.Advance.{definition-past}
+use Rattle.conditions.specs.Grammar.{isDefined, conditionAt}
+use Rattle.conditions.specs.declared.Condition.{Condition}
+use Rattle.conditions.specs.declared.Condition.the-variants.{Truth, Refused}
+use Rattle.conditions.proofs.Parts.{condition-past}
 use Rattle.classify.specs.declared.Past.{Past}
 use Rattle.classify.specs.declared.Past.the-variants.{On, Stop}
-use Rattle.classify.specs.Words.{byForm, byDefinition, pastDirective, pastGrave}
+use Rattle.classify.specs.Words.{byForm, byDefinition, byCondition, takesCondition, pastDirective, pastGrave}
 
 -- past a definition whose word ends at e, as it was judged
 abbrev pub byJudged : ℕ → ℕ → Judged → Past
@@ -56,16 +61,24 @@ module _ (v₀ v i : ℕ) where
   definition-on (bad e) h = omega arith
   definition-on (good m e) h = h m e refl
 
-  directive-on : (d : ℕ) (s : List ℕ) → OnPast i (pastDirective d v₀ v s i)
+  condition-on : (c : Condition) → ((b : Bool) (e : ℕ) → c ≡ Truth b e → i ≤ e) → OnPast i (byCondition v i c)
+  unfolding OnPast
+  condition-on (Truth b e) h = h b e refl
+  condition-on (Refused n p) h = by-test (OnPast i) (eqb n 7) (λ q. omega arith) (λ q. tt)
+
+module _ (v₀ v : ℕ) (s : List ℕ) (t : Token) where
+  directive-on : (d : ℕ) → OnPast (t .end) (pastDirective d v₀ v s t)
   unfolding pastDirective
-  directive-on d s =
-      by-test (OnPast i) (eqb d Define) (λ q. definition-on (definitionAt s i) (λ m e. definition-past s i e m))
-      (λ q. form-on (formAt d s i) (λ x e. form-past d s i e x))
+  directive-on d =
+      by-test (OnPast (t .end)) (eqb d Define) (λ q. definition-on v₀ v (t .end) (definitionAt s (t .end)) (λ m e. definition-past s (t .end) e m))
+      (λ q. by-test (OnPast (t .end)) (takesCondition d)
+      (λ q. condition-on v₀ v (t .end) (conditionAt s (isDefined []) t) (condition-past s (isDefined []) t))
+      (λ q. form-on v₀ v (t .end) (formAt d s (t .end)) (λ x e. form-past d s (t .end) e x)))
 
-pub grave-on : (v₀ v : ℕ) (s : List ℕ) (t : Token) → OnPast (t .end) (pastGrave v₀ v s t)
-unfolding pastGrave
-grave-on v₀ v s t = directive-on v₀ v (t .end) (directiveOf (nameOf s t)) s
+  pub grave-on : OnPast (t .end) (pastGrave v₀ v s t)
+  unfolding pastGrave
+  grave-on = directive-on (directiveOf (nameOf s t))
 
-pub grave-past : (v₀ v : ℕ) (s : List ℕ) (t : Token) (p : Past) (e v′ : ℕ) → p ≡ pastGrave v₀ v s t → p ≡ On e v′ → t .end ≤ e
-unfolding OnPast
-grave-past v₀ v s t p e v′ a b = subst (OnPast (t .end)) b (rw a (grave-on v₀ v s t))
+  pub grave-past : (p : Past) (e v′ : ℕ) → p ≡ pastGrave v₀ v s t → p ≡ On e v′ → t .end ≤ e
+  unfolding OnPast
+  grave-past p e v′ a b = subst (OnPast (t .end)) b (rw a grave-on)

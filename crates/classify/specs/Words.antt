@@ -1,20 +1,23 @@
 -- Classify (01, "Reserved words"): "each plain name outside directives, with offset, length, reserved or not".
 -- Assumes nothing.
 use Prim.Native.Nat.{ℕ, zero, suc, _-_}
-use mathlib.Core.Bool.{Bool, cond, not}
+use mathlib.Core.Bool.{Bool, cond, not, _||_}
 use mathlib.Core.List.{List, [], _∷_}
 use lib.Dec.{eqb, leb}
 use lib.ListN.{length}
 use Rattle.lex.specs.Tokens.{inFile, Name, Grave, is, nameOf, tokenAt}
 use Rattle.lex.specs.declared.Token.{Token}
 use Rattle.keywords.specs.Keywords.{isReserved}
-use Rattle.names.specs.Names.{Define, directiveOf}
+use Rattle.names.specs.Names.{Define, Ifdef, Ifndef, Elsif, directiveOf}
 use Rattle.directive.specs.Forms.{formAt}
 use Rattle.directive.specs.declared.Value.{Value}
 use Rattle.directive.specs.declared.Value.the-variants as value
 use Rattle.directive.specs.declared.Form.{Form}
 use Rattle.directive.specs.declared.Form.the-variants as form
 use Rattle.definition.specs.Definitions.{Definition, barred, bad, good, definitionAt}
+use Rattle.conditions.specs.Grammar.{isDefined, conditionAt}
+use Rattle.conditions.specs.declared.Condition.{Condition}
+use Rattle.conditions.specs.declared.Condition.the-variants.{Truth, Refused}
 use Rattle.classify.specs.declared.Past.{Past}
 use Rattle.classify.specs.declared.Past.the-variants.{On, Stop}
 
@@ -42,15 +45,23 @@ byDefinition v e (barred n p) = Stop n p
 byDefinition v e (bad e′) = On e v
 byDefinition v e (good m e′) = On e′ v
 
--- past the directive d whose word ends at e
-unfoldable pub pastDirective : ℕ → ℕ → ℕ → List ℕ → ℕ → Past
-pastDirective d v₀ v s e =
-    cond (eqb d Define) (byDefinition v e (definitionAt s e))
-    (byForm v₀ v e (formAt d s e))
+abbrev pub byCondition : ℕ → ℕ → Condition → Past
+byCondition v e (Truth b e′) = On e′ v
+byCondition v e (Refused n p) = cond (eqb n 7) (On e v) (Stop n p)
+
+abbrev pub takesCondition : ℕ → Bool
+takesCondition d = eqb d Ifdef || (eqb d Ifndef || eqb d Elsif)
+
+-- past the directive d, whose word is t; a condition has one form whatever is defined
+unfoldable pub pastDirective : ℕ → ℕ → ℕ → List ℕ → Token → Past
+pastDirective d v₀ v s t =
+    cond (eqb d Define) (byDefinition v (t .end) (definitionAt s (t .end)))
+    (cond (takesCondition d) (byCondition v (t .end) (conditionAt s (isDefined []) t))
+    (byForm v₀ v (t .end) (formAt d s (t .end))))
 
 -- past a grave accent name
 unfoldable pub pastGrave : ℕ → ℕ → List ℕ → Token → Past
-pastGrave v₀ v s t = pastDirective (directiveOf (nameOf s t)) v₀ v s (t .end)
+pastGrave v₀ v s t = pastDirective (directiveOf (nameOf s t)) v₀ v s t
 
 abbrev pub bit : Bool → ℕ
 bit b = cond b 1 0

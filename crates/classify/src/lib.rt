@@ -7,8 +7,11 @@ ghost use Rattle.lex.specs.Tokens.{nameOf};
 ghost use Rattle.definition.specs.Definitions.{definitionAt};
 ghost use Rattle.definition.specs.Answers.{judgedOf};
 ghost use Rattle.keywords.specs.Tables.{Tables};
-ghost use Rattle.classify.specs.Words.{setBy, byForm, byDefinition, pastDirective, pastGrave, wordOf, bit, wordsOf};
+ghost use Rattle.conditions.specs.Grammar.{isDefined, conditionAt};
+ghost use Rattle.classify.specs.Words.{setBy, byForm, byDefinition, byCondition, takesCondition, pastDirective, pastGrave, wordOf, bit, wordsOf};
 ghost use Rattle.classify.specs.Answer.{refusedLine, outcomeOf, Listed, Answered};
+use conditions::Condition;
+use conditions::condition_at;
 use definition::Judged;
 use definition::judge_definition;
 use directive::Form;
@@ -24,6 +27,9 @@ use lex::Token;
 use lex::in_file;
 use lex::token_at;
 use names::DEFINE;
+use names::ELSIF;
+use names::IFDEF;
+use names::IFNDEF;
 use names::directive_of;
 use places::line_at;
 use text::part_of;
@@ -125,23 +131,56 @@ fn past_definition(s: &[u8], at: usize, set: usize, name: &mut [u8], stack: &mut
     }
 }
 
-// Past the directive `d` whose word ends at `at`.
+// Past a conditional word, which ends at `at`, by its condition.
+fn past_condition(c: Condition, at: usize, set: usize) -> Past
+    ensures { λ r. ⌜ r ≡ byCondition set at c ⌝ }
+{
+    match c {
+        Condition::Truth(_, e) => Past::On(e, set),
+        Condition::Refused(n, p) => {
+            if n == 7 {
+                return Past::On(at, set);
+            }
+            Past::Stop(n, p)
+        }
+    }
+}
+
+// The condition behind the conditional word `t`, where nothing is defined.
+fn condition_form(s: &[u8], t: Token) -> Condition
+    ensures { λ r. ⌜ r ≡ conditionAt (now (s .entry)) (isDefined []) t ⌝ }
+{
+    let bytes = [0u8; 1];
+    let records = [[0u32; 4]; 1];
+    condition_at(s, t, &bytes, &records, 0)
+}
+
+fn takes_condition(d: usize) -> bool
+    ensures { λ r. ⌜ r ≡ takesCondition d ⌝ }
+{
+    (d == IFDEF) | ((d == IFNDEF) | (d == ELSIF))
+}
+
+// Past the directive `d`, whose word is `t`.
 fn past_directive(
     d: usize,
     s: &[u8],
-    at: usize,
+    t: Token,
     start: usize,
     set: usize,
     name: &mut [u8],
     stack: &mut [u8],
 ) -> Past
     requires { ⌜ (length (now s) ≤ 16777215) × (1025 ≤ length (now name)) ⌝ }
-    ensures { λ r. ⌜ r ≡ pastDirective d start set (now (s .entry)) at ⌝ }
+    ensures { λ r. ⌜ r ≡ pastDirective d start set (now (s .entry)) t ⌝ }
 {
     if d == DEFINE {
-        return past_definition(s, at, set, name, stack);
+        return past_definition(s, t.end, set, name, stack);
     }
-    past_form(form_at(d, s, at), start, set, at)
+    if takes_condition(d) {
+        return past_condition(condition_form(s, t), t.end, set);
+    }
+    past_form(form_at(d, s, t.end), start, set, t.end)
 }
 
 // Past the grave accent name `t`.
@@ -157,7 +196,7 @@ fn past_grave(
     ensures { λ r. ⌜ r ≡ pastGrave start set (now (s .entry)) t ⌝ }
 {
     let d = directive_of(part_of(s, t.from, t.end));
-    past_directive(d, s, t.end, start, set, name, stack)
+    past_directive(d, s, t, start, set, name, stack)
 }
 
 fn bit_of(b: bool) -> u32

@@ -17,7 +17,7 @@ use Rattle.lex.specs.Tokens.{inFile, Newline, String, Name, Escaped, Number, is
 use Rattle.lex.proofs.Tests.{by-test}
 use Rattle.lex.proofs.Progress.{token-ends}
 use Rattle.lex.proofs.Listing.{by-tokens}
-use Rattle.names.specs.Names.{Include, Timescale, DefaultNettype, UnconnectedDrive, BeginKeywords, Unknown, unitOf, nettypeOf, driveOf, versionOf}
+use Rattle.names.specs.Names.{Undef, Include, Timescale, DefaultNettype, UnconnectedDrive, BeginKeywords, Unknown, unitOf, nettypeOf, driveOf, versionOf}
 use Rattle.directive.specs.declared.Word.{Word}
 use Rattle.directive.specs.declared.Word.the-variants as word
 use Rattle.directive.specs.declared.Time.{Time}
@@ -33,7 +33,7 @@ use Rattle.directive.specs.declared.Form.{Form}
 use Rattle.directive.specs.declared.Form.the-variants as form
 use Rattle.directive.specs.Words.{wraps, wordStart, wordAt}
 use Rattle.directive.specs.Include.{rawFrom, rawEnd, behind, behindAt, angledBy, nameAt, includeIn, includeAt}
-use Rattle.directive.specs.Forms.{nameBy, nameForm, power, unitBy, unitAfter, magnitude, timeBy, timeAt, precisionBy, precisionForm, slashBy, slashForm, timescaleBy, timescaleForm, entry, nettypeBy, nettypeForm, driveBy, driveForm, versionBy, versionForm, namedBy, lineForm, includeForm, takesName, standsAlone, formAt}
+use Rattle.directive.specs.Forms.{nameBy, nameForm, power, unitBy, unitAfter, magnitude, timeBy, timeAt, precisionBy, precisionForm, slashBy, slashForm, timescaleBy, timescaleForm, entry, nettypeBy, nettypeForm, driveBy, driveForm, versionBy, versionForm, namedBy, lineForm, includeForm, standsAlone, formAt}
 use Rattle.directive.proofs.Wording.{start-past, by-next}
 
 -- what is found, if anything, ends at i or later
@@ -211,7 +211,7 @@ module _ (i : ℕ) where
   unfolding formAt nameForm includeForm timescaleForm nettypeForm driveForm versionForm
   at-past d s =
       let h : i ≤ i = omega arith in
-      by-test (FormPast i) (takesName d)
+      by-test (FormPast i) (eqb d Undef)
       (λ e. next-word nameBy (λ t h. by-test (FormPast i) (is Name t || is Escaped t) (λ q. formed _ (t .end) h) (λ q. unformed)) unformed form-barred s i h)
       (λ e. by-test (FormPast i) (standsAlone d) (λ e. formed _ i h)
       (λ e. by-test (FormPast i) (eqb d Include) (λ e. line-past (includeAt s i) (include-past s))

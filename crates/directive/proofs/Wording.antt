@@ -5,15 +5,15 @@ use mathlib.Core.Bool.{Bool, true, false, not, _&&_, _||_, and-false}
 use mathlib.Core.List.{List, _∷_}
 use mathlib.Core.Path.{_≡_, refl, sym, subst}
 use native.Mathlib.Omega.{arith}
-use lib.Dec.{eqb, leb, ltb}
+use lib.Dec.{eqb, leb}
 use lib.ListN.{length, getD}
-use borrow.Author.Tests.{ltb-true, leb-true, leb-false, lt-leb, ne-eqb, not-true}
+use borrow.Author.Tests.{leb-true, leb-false, lt-leb, ne-eqb, not-true}
 use Rattle.lex.specs.declared.Mode.{Mode}
 use Rattle.lex.specs.declared.Token.{Token}
 use Rattle.lex.specs.Classes.{isWhite, isDigit, isStart, isSign, isBase}
 use Rattle.lex.specs.Scans.{spanEnd}
 use Rattle.lex.specs.Tokens.{inFile, White, Newline, End, is, isGap, plain, stringToken, backslashToken, digitsToken, basedToken, escapedGrave, graveToken, signToken, tokenAt, tokens}
-use Rattle.lex.proofs.Tests.{by-test, and-left, and-right, true-false}
+use Rattle.lex.proofs.Tests.{by-test, true-false}
 use Rattle.lex.proofs.Progress.{Inside, token-past, token-at, token-ends, token-within}
 use Rattle.lex.proofs.Listing.{tokens-out, file-mode, file-tokens, by-tokens}
 use Rattle.directive.specs.declared.Word.{Word}
@@ -66,12 +66,11 @@ module _ (s : List ℕ) (i : ℕ) where
       (λ e. by-test Solid (eqb b 39) (λ e. based-solid)
       (λ e. by-test Solid (eqb b 96) (λ e. grave-solid) (λ e. refl)))))
 
-  -- a byte over 32, other than `/`, begins no spacing
-  token-solid : 32 < getD s i 0 → eqb (getD s i 0) 47 ≡ false → Solid (tokenAt inFile s i)
+  -- a byte other than white ones and `/` begins no spacing
+  token-solid : isWhite (getD s i 0) ≡ false → eqb (getD s i 0) 47 ≡ false → Solid (tokenAt inFile s i)
   unfolding tokenAt
-  token-solid g n =
+  token-solid w n =
       let b : ℕ = getD s i 0 in
-      let w : isWhite b ≡ false = rw (ne-eqb b 9 (λ q. omega arith), ne-eqb b 12 (λ q. omega arith), ne-eqb b 32 (λ q. omega arith)) in
       by-test Solid (leb (length s) i) (λ e. refl)
       (λ e. by-test Solid (isWhite b) (λ e. true-false (isWhite b) e w)
       (λ e. by-test Solid (isStart b) (λ e. refl)
@@ -117,13 +116,10 @@ module _ (s : List ℕ) (i : ℕ) where
     pub start-white : isWhite (getD s i 0) ≡ true → wordStart s i ≡ wordStart s (i + 1)
     start-white w = start-on inFile (plain White i (i + 1) 0) h refl (sym (white-token s i h w)) refl
 
-    pub start-solid : (ltb 32 (getD s i 0) && not (eqb (getD s i 0) 47)) ≡ true → wordStart s i ≡ i
-    start-solid w =
-        let b : ℕ = getD s i 0 in
-        let g : 32 < b = ltb-true 32 b (and-left (ltb 32 b) (not (eqb b 47)) w) in
-        let n : eqb b 47 ≡ false = not-true (eqb b 47) (and-right (ltb 32 b) (not (eqb b 47)) w) in
+    pub start-solid : isWhite (getD s i 0) ≡ false → (getD s i 0 ≡ 47 → ⊥) → wordStart s i ≡ i
+    start-solid w n =
         let t : Token = tokenAt inFile s i in
-        start-here inFile t h refl refl (rw (token-solid s i g n) (and-false (eqb (t .bar) 0)))
+        start-here inFile t h refl refl (rw (token-solid s i w (ne-eqb (getD s i 0) 47 n)) (and-false (eqb (t .bar) 0)))
 
 -- ---- where the next word starts
 

@@ -8,7 +8,7 @@ use lib.ListN.{drop}
 use Rattle.text.specs.Bytes.{bytes, begins, part}
 use Rattle.lex.specs.Tokens.{String, Name, Escaped, Number, is, isByte}
 use Rattle.lex.specs.declared.Token.{Token}
-use Rattle.names.specs.Names.{Undef, UndefineAll, Ifdef, Ifndef, Elsif, Else, Endif, Include, Resetall, Timescale, DefaultNettype, Celldefine, EndCelldefine, UnconnectedDrive, NoUnconnectedDrive, BeginKeywords, EndKeywords, FileWord, LineWord, Unknown, unitOf, nettypeOf, driveOf, versionOf}
+use Rattle.names.specs.Names.{Undef, UndefineAll, Else, Endif, Include, Resetall, Timescale, DefaultNettype, Celldefine, EndCelldefine, UnconnectedDrive, NoUnconnectedDrive, BeginKeywords, EndKeywords, FileWord, LineWord, Unknown, unitOf, nettypeOf, driveOf, versionOf}
 use Rattle.directive.specs.Words.{wordAt}
 use Rattle.directive.specs.Include.{includeAt}
 use Rattle.directive.specs.declared.Word.{Word}
@@ -23,7 +23,7 @@ use Rattle.directive.specs.declared.Value.the-variants.{Nothing, MacroNa
 use Rattle.directive.specs.declared.Form.{Form}
 use Rattle.directive.specs.declared.Form.the-variants.{Formed, Unformed, Barred}
 
--- `ifdef`, `ifndef`, `elsif`, `undef`: a plain or escaped name
+-- `undef`: a plain or escaped name
 abbrev pub nameBy : Word → Form
 nameBy (word.Found t) = cond (is Name t || is Escaped t) (Formed (MacroName (t .from) (t .end)) (t .end)) Unformed
 nameBy word.Missing = Unformed
@@ -136,9 +136,6 @@ lineForm l =
 unfoldable pub includeForm : List ℕ → ℕ → Form
 includeForm s i = lineForm (includeAt s i)
 
-abbrev pub takesName : ℕ → Bool
-takesName d = eqb d Ifdef || (eqb d Ifndef || (eqb d Elsif || eqb d Undef))
-
 -- directives of the one word alone
 abbrev pub standsAlone : ℕ → Bool
 standsAlone d =
@@ -155,10 +152,10 @@ aloneValue d =
     (cond (eqb d EndKeywords) StartingSet
     Nothing))))
 
--- the form of the directive d whose word ends at i; a definition has its own, and what is left out has none
+-- the form of the directive d whose word ends at i; definitions and conditions have their own, and what is left out has none
 unfoldable pub formAt : ℕ → List ℕ → ℕ → Form
 formAt d s i =
-    cond (takesName d) (nameForm s i)
+    cond (eqb d Undef) (nameForm s i)
     (cond (standsAlone d) (Formed (aloneValue d) i)
     (cond (eqb d Include) (includeForm s i)
     (cond (eqb d Timescale) (timescaleForm s i)

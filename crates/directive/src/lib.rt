@@ -5,7 +5,7 @@ ghost use lib.ListN.{length};
 ghost use Rattle.directive.specs.Words.{isBetween, wordStart, wordAt};
 ghost use Rattle.directive.specs.Include.{rawEnd, behindAt, nameAt, includeAt};
 ghost use Rattle.directive.specs.Include.{line as includeLine};
-ghost use Rattle.directive.specs.Forms.{nameForm, unitAfter, magnitude, timeAt, precisionForm, slashForm, timescaleForm, nettypeForm, driveForm, versionForm, includeForm, takesName, standsAlone, aloneValue, formAt, entry};
+ghost use Rattle.directive.specs.Forms.{nameForm, unitAfter, magnitude, timeAt, precisionForm, slashForm, timescaleForm, nettypeForm, driveForm, versionForm, includeForm, standsAlone, aloneValue, formAt, entry};
 ghost use Rattle.directive.specs.Forms.{power as powerOf};
 use lex::BLOCK_COMMENT;
 use lex::END;
@@ -29,13 +29,10 @@ use names::BEGIN_KEYWORDS;
 use names::CELLDEFINE;
 use names::DEFAULT_NETTYPE;
 use names::ELSE;
-use names::ELSIF;
 use names::END_CELLDEFINE;
 use names::END_KEYWORDS;
 use names::ENDIF;
 use names::FILE_WORD;
-use names::IFDEF;
-use names::IFNDEF;
 use names::INCLUDE;
 use names::LINE_WORD;
 use names::NO_UNCONNECTED_DRIVE;
@@ -129,12 +126,12 @@ pub fn word_start(s: &[u8], at: usize) -> usize
     let mut i = at;
     while i < s.len() {
         let b = s[i];
-        if (32 < b) & (b != 47) {
-            return i;
-        }
         if is_white(b) {
             i += 1;
             continue;
+        }
+        if b != 47 {
+            return i;
         }
         let t = token_at(s, i, in_file());
         if !is_between(s, t) {
@@ -475,12 +472,6 @@ fn include_form(s: &[u8], at: usize) -> Form
     }
 }
 
-fn takes_name(d: usize) -> bool
-    ensures { λ r. ⌜ r ≡ takesName d ⌝ }
-{
-    (d == IFDEF) | ((d == IFNDEF) | ((d == ELSIF) | (d == UNDEF)))
-}
-
 fn stands_alone(d: usize) -> bool
     ensures { λ r. ⌜ r ≡ standsAlone d ⌝ }
 {
@@ -517,11 +508,11 @@ fn alone_value(d: usize) -> Value
     Value::Nothing
 }
 
-// The form of the directive `d`, whose word ends at `at`; a definition has its own.
+// The form of the directive `d`, whose word ends at `at`; definitions and conditions have their own.
 pub fn form_at(d: usize, s: &[u8], at: usize) -> Form
     ensures { λ r. ⌜ r ≡ formAt d (now (s .entry)) at ⌝ }
 {
-    if takes_name(d) {
+    if d == UNDEF {
         return name_form(s, at);
     }
     if stands_alone(d) {

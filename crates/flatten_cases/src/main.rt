@@ -20,7 +20,7 @@ fn run_case(
     bytes: &mut [u8],
     words: &mut [[u32; 3]],
 )
-    requires { ⌜ at ≤ 1060000 ⌝ }
+    requires { ⌜ at ≤ 1500000 ⌝ }
 {
     let a = least(number_at(s, at), text.len());
     let b = least(number_at(s, at + 4), map.len());
@@ -48,7 +48,7 @@ fn run_all(
     bytes: &mut [u8],
     words: &mut [[u32; 3]],
 )
-    requires { ⌜ length (now s) ≤ 1060000 ⌝ }
+    requires { ⌜ length (now s) ≤ 1500000 ⌝ }
 {
     let mut i = 0;
     while i < s.len() {
@@ -62,7 +62,7 @@ fn run_all(
 }
 
 fn main() {
-    let mut input = [0u8; 1060000];
+    let mut input = [0u8; 1500000];
     let mut text = [170u8; 262144];
     let mut map = [7u32; 65536];
     let mut records = [[7u32; 4]; 4096];

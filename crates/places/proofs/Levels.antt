@@ -1,17 +1,17 @@
 -- Stretches of a text that hold no newline.
 -- Assumes nothing.
-use Prim.Native.Nat.{ℕ, _-_, _<_, _≤_}
+use Prim.Native.Nat.{ℕ, _+_, _-_, _<_, _≤_}
 use mathlib.Core.Bool.{Bool, true, false, _&&_, _||_}
 use mathlib.Core.List.{List, [], _∷_}
 use mathlib.Core.Path.{_≡_, refl, ap, subst, _∙_}
 use native.Mathlib.Omega.{arith}
 use lib.Dec.{eqb}
-use lib.ListN.{length}
+use lib.ListN.{length, take, drop, length-drop}
 use borrow.Author.Tests.{eqb-true}
-use Rattle.text.specs.Bytes.{holds, part}
+use Rattle.text.specs.Bytes.{begins, holds, part}
 use Rattle.lex.specs.Tokens.{Newline, BlockComment, String, is, tokenAt}
 use Rattle.lex.specs.declared.Mode.{Mode}
-use Rattle.lex.proofs.Tests.{true-false}
+use Rattle.lex.proofs.Tests.{and-left, and-right, true-false}
 use Rattle.lex.proofs.Progress.{Inside, token-at, token-ends, token-within}
 use Rattle.places.specs.Places.{newlines}
 use Rattle.places.proofs.Lines.{line-past}
@@ -68,3 +68,25 @@ module _ (m : Mode) (d : m .define ≡ false) (s : List ℕ) (i : ℕ) (h : i < 
       go : (b : Bool) → is BlockComment (tokenAt m s i) ≡ b → newlines (part s i (tokenAt m s i .end)) ≡ 0
       go true q = subst (λ (j : ℕ). newlines (part s j (tokenAt m s i .end)) ≡ 0) (token-at m s i) (holds-none (part s (tokenAt m s i .at) (tokenAt m s i .end)) (rw q at w))
       go false q = outside-flat m d s i h n t q
+
+-- a text that begins with the word w
+begins-take : (xs w : List ℕ) → begins xs w ≡ true → take (length w) xs ≡ w
+unfolding begins
+begins-take xs [] e = refl
+begins-take [] (b ∷ w) e = true-false false e refl
+begins-take (x ∷ xs) (b ∷ w) e = rw (eqb-true x b (and-left (eqb x b) (begins xs w) e), begins-take xs w (and-right (eqb x b) (begins xs w) e))
+
+begins-length : (xs w : List ℕ) → begins xs w ≡ true → length w ≤ length xs
+unfolding begins
+begins-length xs [] e = omega arith
+begins-length [] (b ∷ w) e = true-false false e refl
+begins-length (x ∷ xs) (b ∷ w) e = omega (arith, begins-length xs w (and-right (eqb x b) (begins xs w) e))
+
+pub word-level : (s : List ℕ) (i : ℕ) (b : ℕ) (w : List ℕ) → holds 10 (b ∷ w) ≡ false → begins (drop i s) (b ∷ w) ≡ true → Level s i (i + length (b ∷ w))
+word-level s i b w n e =
+    let l : length (b ∷ w) ≤ length (drop i s) = begins-length (drop i s) (b ∷ w) e in
+    let z : i + length (b ∷ w) - i ≡ length (b ∷ w) = omega arith in
+    record {
+      inside = record { past = omega arith; within = omega (arith, l, length-drop i s) };
+      flat = rw (z, begins-take (drop i s) (b ∷ w) e) (holds-none (b ∷ w) n);
+    }

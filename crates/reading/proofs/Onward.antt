@@ -242,11 +242,11 @@ module _ {s : List ℕ} {file : ℕ} {b : List ℕ} {rs : List (List ℕ)} {n : 
           level : Level s (c .at) e
           level =
               level-on (token-level inFile refl s (c .at) in-file (other-kind (λ i. eqb i Grave) Newline refl (tokenOn s c .kind) accent) (other-kind (λ i. eqb i Grave) String refl (tokenOn s c .kind) accent) (rw (other-kind (λ i. eqb i Grave) BlockComment refl (tokenOn s c .kind) accent)))
-              (word-level (hereOn nowhere [] (stored .macros) (resetTo 0) 0 file s c (openIn w (k .open)) noRoom) (token-within inFile s (c .at) in-file) d low high (openIn w′ (k′ .open)) e (chooses .act-is))
+              (word-level (hereOn nowhere [] (stored .macros) (resetTo 0) 0 file s c (openIn w (k .open)) noRoom) (token-within inFile s (c .at) in-file) d (openIn w′ (k′ .open)) e (chooses .act-is))
 
           longer : c .at < e
           longer =
-              let l = word-level (hereOn nowhere [] (stored .macros) (resetTo 0) 0 file s c (openIn w (k .open)) noRoom) (token-within inFile s (c .at) in-file) d low high (openIn w′ (k′ .open)) e (chooses .act-is) in
+              let l = word-level (hereOn nowhere [] (stored .macros) (resetTo 0) 0 file s c (openIn w (k .open)) noRoom) (token-within inFile s (c .at) in-file) d (openIn w′ (k′ .open)) e (chooses .act-is) in
               omega (arith, l .inside .past, token-ends inFile s (c .at) in-file)
 
           cursor-flat : cursorBehind s e c ≡ record { at = e; line = c .line; other = true; comment = false }

@@ -20,7 +20,6 @@ use definition::judge_definition;
 use lex::Token;
 use macros::ReadIn;
 use macros::define_at;
-use names::UNDEF;
 use store::undefine;
 use store::undefine_all;
 use text::part_of;
@@ -77,7 +76,7 @@ pub(crate) fn undef(
     requires { ⌜ (length (now bytes) ≤ 65536) × Stored (now bytes) (now records) (z .macros) × Reads (now s) 0 (z .cursor) ⌝ }
     ensures { λ r. ⌜ ((x : Context) (ms : List Macro) (fs : List ℕ) (es : List (List ℕ)) (set : ℕ) (limit : ℕ) (tx : List ℕ) (mp : List ℕ) (fr : List (List ℕ)) (cd : List (List ℕ)) → Fixed x fs es set (bufs tx mp (now (bytes .entry)) (now (records .entry)) fr cd) → At fs es (now (s .entry)) t z → Ok fs es (bufs tx mp (now (bytes .entry)) (now (records .entry)) fr cd) z → Holds ms (now (bytes .entry)) (now (records .entry)) (z .macros) → Performed r x fs es limit (bufs tx mp (now (bytes .entry)) (now (records .entry)) fr cd) (bufs tx mp (now (bytes .exit)) (now (records .exit)) fr cd) ms z (λ h. undefAct h)) ⌝ }
 {
-    let f = name_after(UNDEF, s, t);
+    let f = name_after(s, t);
     match f {
         Named::Name(a, b, e) => {
             let n = undefine(bytes, records, z.macros, part_of(s, a, b));

@@ -37,7 +37,7 @@ module _ {A : Type 0} (z : A) where
       let k : length l - 0 ≡ n = omega (arith, ap length e, length-replicate n z) in
       e ∙ ap (λ (j : ℕ). replicate j z) (sym k)
 
-none-held : {b : List ℕ} {r : List (List ℕ)} (k j : ℕ) → b ≡ replicate k 0 → r ≡ replicate j blankRecord → Holds [] b r 0
+pub none-held : {b : List ℕ} {r : List (List ℕ)} (k j : ℕ) → b ≡ replicate k 0 → r ≡ replicate j blankRecord → Holds [] b r 0
 unfolding encode rowsFrom
 none-held {b} {r} k j eb er = record { bytes = blank-padded 0 b k eb; rows = blank-padded blankRecord r j er; count = refl }
 

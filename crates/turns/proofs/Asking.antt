@@ -22,11 +22,14 @@ use Rattle.directive.specs.declared.FileName.the-variants.{Unnamed, Quoted, Ang
 use Rattle.directive.specs.declared.IncludeLine.{IncludeLine}
 use Rattle.directive.specs.Include.{includeAt}
 use Rattle.definition.specs.Definitions.{Definition, barred, bad, good, definitionAt}
+use Rattle.conditions.specs.declared.Condition.{Condition}
+use Rattle.conditions.specs.declared.Condition.the-variants.{Truth, Refused}
+use Rattle.conditions.proofs.Parts.{condition-level}
 use Rattle.blocks.specs.Blocks.{Conditional, takenBy, nextBlock, closeBlock}
 use Rattle.handover.specs.Entries.{entryOf}
 use Rattle.turns.specs.States.{Context, Frame, State, Here}
-use Rattle.turns.specs.Acts.{Act, keeps, refusesHere, onForm, formHere, isDefined, onBlocks, openAct, conditionAct, conditionalAct, defineAct, hideAct, enterAct, onFile, includeAct, takenAct, graveAct, actAt}
-use Rattle.turns.specs.Asking.{Reading, Named, EndsAt, Taken, Ignored, of-token, of-form, of-definition, of-line, of-rule, ill, well, Opens, by-ifdef, by-ifndef, by-elsif, by-else, by-endif, Includes, quoted-name, angled-name, all-but, no-more, file-name, line-number, Asks, to-refuse, to-leave, to-copy, to-skip, to-hide, to-branch, to-define, to-undefine, to-include, to-keep, to-spell, to-expand}
+use Rattle.turns.specs.Acts.{Act, keeps, refusesHere, onForm, formHere, isDefinedHere, conditionHere, onCondition, onBlocks, openAct, conditionAct, conditionalAct, defineAct, hideAct, enterAct, onFile, includeAct, takenAct, graveAct, actAt}
+use Rattle.turns.specs.Asking.{Reading, Named, EndsAt, Taken, Ignored, of-token, of-form, of-condition, of-definition, of-line, of-rule, ill, well, Opens, by-ifdef, by-ifndef, by-elsif, by-else, by-endif, Includes, quoted-name, angled-name, all-but, no-more, file-name, line-number, Asks, to-refuse, to-leave, to-copy, to-skip, to-hide, to-branch, to-define, to-undefine, to-include, to-keep, to-spell, to-expand}
 use Rattle.turns.specs.Usages.{outerOf, usageEnd, expandHere}
 use Rattle.turns.specs.Turns.{hereAt}
 use Rattle.turns.proofs.Forms.{include-inside, form-inside}
@@ -67,6 +70,13 @@ module _ (h : Here) where
         go Unformed q = rule 7 (omega arith) (omega arith)
         go (Barred n p) q = to-refuse (of-form k q)
 
+    condition-asks : (y : Bool → ℕ → Act) → ((b : Bool) (e : ℕ) → conditionHere h ≡ Truth b e → EndsAt h e → Asks h (y b e)) → Asks h (onCondition (conditionHere h) y)
+    condition-asks y g = go (conditionHere h) refl
+      where
+        go : (c : Condition) → conditionHere h ≡ c → Asks h (onCondition c y)
+        go (Truth b e) q = g b e q (ends-at h e (condition-level (h .body) (isDefinedHere h) (h .token) b e q (a .reading .within) .inside))
+        go (Refused n p) q = to-refuse (of-condition q)
+
     blocks-ask : (e : ℕ) (o : Option (List Conditional)) → Opens h d e o → EndsAt h e → Asks h (onBlocks (h .token .at) e o)
     blocks-ask e none o i = rule 8 (omega arith) (omega arith)
     blocks-ask e (some cs) o i = to-branch a o i
@@ -76,12 +86,12 @@ module _ (h : Here) where
     conditional-asks c =
         by-test (Asks h) (eqb d Endif) (λ q. blocks-ask _ (closeBlock (h .state .conds)) (by-endif (eqb-true d Endif q)) (word-ends h (a .reading)))
         (λ x. by-test (Asks h) (eqb d Else) (λ q. blocks-ask _ (nextBlock true true (h .state .conds)) (by-else (eqb-true d Else q)) (word-ends h (a .reading)))
-        (λ y. form-asks d (conditionAct d h)
-        (λ v e f i. by-test (Asks h) (eqb d Elsif)
-        (λ z. blocks-ask e (nextBlock (isDefined h v) false (h .state .conds)) (by-elsif v (eqb-true d Elsif z) f) i)
-        (λ z. by-test (λ (b : Bool). Asks h (openAct h b e)) (eqb d Ifdef) (λ w. blocks-ask e _ (by-ifdef v (eqb-true d Ifdef w) f) i)
+        (λ y. condition-asks (conditionAct d h)
+        (λ b e f i. by-test (Asks h) (eqb d Elsif)
+        (λ z. blocks-ask e (nextBlock b false (h .state .conds)) (by-elsif (eqb-true d Elsif z) f) i)
+        (λ z. by-test (λ (b : Bool). Asks h (openAct h b e)) (eqb d Ifdef) (λ w. blocks-ask e _ (by-ifdef (eqb-true d Ifdef w) f) i)
         (λ w. blocks-ask e _
-        (by-ifndef v (only-ifndef d (leb-true Ifdef d (and-left (leb Ifdef d) (leb d Endif) c)) (leb-true d Endif (and-right (leb Ifdef d) (leb d Endif) c))
+        (by-ifndef (only-ifndef d (leb-true Ifdef d (and-left (leb Ifdef d) (leb d Endif) c)) (leb-true d Endif (and-right (leb Ifdef d) (leb d Endif) c))
         (eqb-false d Endif x) (eqb-false d Else y) (eqb-false d Elsif z) (eqb-false d Ifdef w)) f) i)))))
 
     -- d is n

@@ -1,8 +1,9 @@
 -- Files flattened: document 01's bench examples, each over the bytes of a file.
 -- Assumes nothing.
+use mathlib.Core.Bool.{Bool, true, false}
 use mathlib.Core.Path.{_≡_, refl}
 use Rattle.text.specs.Bytes.{bytes}
-use Rattle.turns.specs.Examples.{says, flat}
+use Rattle.turns.specs.Examples.{says, flat, Variant, textIn, fourDeep, oneCondition}
 use Rattle.turns.proofs.Computing.{flattening}
 
 -- an ignored block does not end at a directive inside a definition
@@ -38,3 +39,37 @@ both-empty = refl
 pub recursive : flat "`define A `B\n`define B `A\n`A" ≡ says 16 26 2 (bytes "\n\n")
 unfolding flattening
 recursive = refl
+
+-- 02, P1: a nest of four conditionals and one condition, in each of the sixteen variants
+same : (fast wide spare logged : Bool)
+    → textIn (record { fast = fast; wide = wide; spare = spare; logged = logged }) fourDeep ≡ textIn (record { fast = fast; wide = wide; spare = spare; logged = logged }) oneCondition
+unfolding flattening
+same true true true true = refl
+same true true true false = refl
+same true true false true = refl
+same true true false false = refl
+same true false true true = refl
+same true false true false = refl
+same true false false true = refl
+same true false false false = refl
+same false true true true = refl
+same false true true false = refl
+same false true false true = refl
+same false true false false = refl
+same false false true true = refl
+same false false true false = refl
+same false false false true = refl
+same false false false false = refl
+
+pub four-deep : (v : Variant) → textIn v fourDeep ≡ textIn v oneCondition
+four-deep v = same (v .fast) (v .wide) (v .spare) (v .logged)
+
+-- a condition is refused at the token that does not fit, in ignored text too
+pub unfit : flat "`ifdef X\n`ifdef (A &\n`endif\n`endif\n" ≡ says 7 19 0 (bytes "")
+unfolding flattening
+unfit = refl
+
+-- 7 before 8: an `elsif` with no conditional open
+pub seven-first : flat "`elsif (A\n" ≡ says 7 9 0 (bytes "")
+unfolding flattening
+seven-first = refl

@@ -19,7 +19,7 @@ use Rattle.lex.proofs.Tests.{by-test}
 use Rattle.lex.proofs.Progress.{Inside, token-at}
 use Rattle.lex.proofs.Barring.{Barring, numbered-none, illegal-bar, token-bars}
 use Rattle.lex.proofs.Listing.{by-tokens}
-use Rattle.names.specs.Names.{Include, Timescale, DefaultNettype, UnconnectedDrive, BeginKeywords, Unknown, unitOf, nettypeOf, driveOf, versionOf}
+use Rattle.names.specs.Names.{Undef, Include, Timescale, DefaultNettype, UnconnectedDrive, BeginKeywords, Unknown, unitOf, nettypeOf, driveOf, versionOf}
 use Rattle.directive.specs.declared.Word.{Word}
 use Rattle.directive.specs.declared.Word.the-variants as word
 use Rattle.directive.specs.declared.Time.{Time}
@@ -35,7 +35,7 @@ use Rattle.directive.specs.declared.Form.{Form}
 use Rattle.directive.specs.declared.Form.the-variants as form
 use Rattle.directive.specs.Words.{wraps, wordStart, wordAt}
 use Rattle.directive.specs.Include.{rawFrom, rawEnd, line, behind, behindAt, angledBy, nameAt, includeIn, includeAt}
-use Rattle.directive.specs.Forms.{nameBy, nameForm, power, unitBy, unitAfter, magnitude, timeBy, timeAt, precisionBy, precisionForm, slashBy, slashForm, timescaleBy, timescaleForm, entry, nettypeBy, nettypeForm, driveBy, driveForm, versionBy, versionForm, namedBy, lineForm, includeForm, takesName, standsAlone, formAt}
+use Rattle.directive.specs.Forms.{nameBy, nameForm, power, unitBy, unitAfter, magnitude, timeBy, timeAt, precisionBy, precisionForm, slashBy, slashForm, timescaleBy, timescaleForm, entry, nettypeBy, nettypeForm, driveBy, driveForm, versionBy, versionForm, namedBy, lineForm, includeForm, standsAlone, formAt}
 use Rattle.directive.proofs.Wording.{start-past, by-next}
 use Rattle.turns.proofs.Inside.{inside-here, token-in}
 
@@ -262,7 +262,7 @@ module _ (s : List ℕ) where
     unfolding FormIn formAt nameForm includeForm timescaleForm nettypeForm driveForm versionForm
     form-in d =
         let h : i ≤ i = omega arith in
-        by-test FormIn (takesName d)
+        by-test FormIn (eqb d Undef)
         (λ e. next-word nameBy (λ t h. by-test FormIn (is Name t || is Escaped t) (λ q w. h) (λ q. tt)) tt (λ n p h. h) i h)
         (λ e. by-test FormIn (standsAlone d) (λ e. inside-here s i)
         (λ e. by-test FormIn (eqb d Include) (λ e. line-in (includeAt s i) include-in)

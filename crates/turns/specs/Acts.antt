@@ -19,9 +19,10 @@ use Rattle.directive.specs.declared.IncludeLine.{IncludeLine}
 use Rattle.directive.specs.Forms.{formAt}
 use Rattle.directive.specs.Include.{includeAt}
 use Rattle.definition.specs.Definitions.{Macro, Definition, barred, bad, good, definitionAt}
-use Rattle.store.specs.Stores.{find, undefine}
-use Rattle.store.specs.declared.Found.{Found}
-use Rattle.store.specs.declared.Found.the-variants.{At, Missing}
+use Rattle.store.specs.Stores.{undefine}
+use Rattle.conditions.specs.Grammar.{isDefined, conditionAt}
+use Rattle.conditions.specs.declared.Condition.{Condition}
+use Rattle.conditions.specs.declared.Condition.the-variants.{Truth, Refused}
 use Rattle.places.specs.Places.{quoted, decimal}
 use Rattle.blocks.specs.Blocks.{Conditional, takenBy, openBlock, nextBlock, closeBlock}
 use Rattle.handover.specs.Entries.{entryOf, nameOf as entryNamed}
@@ -69,12 +70,17 @@ nameIn Reset s = []
 
 -- Conditionals
 
-abbrev pub isAt : Found → Bool
-isAt (At i) = true
-isAt (Missing i) = false
+abbrev pub isDefinedHere : Here → List ℕ → Bool
+isDefinedHere h = isDefined (h .state .macros)
 
-abbrev pub isDefined : Here → Value → Bool
-isDefined h v = isAt (find (nameIn v (h .body)) (h .state .macros))
+-- the condition behind a conditional word
+abbrev pub conditionHere : Here → Condition
+conditionHere h = conditionAt (h .body) (isDefinedHere h) (h .token)
+
+-- by its value and its end; refused with 7, or with 2 to 6
+abbrev pub onCondition : Condition → (Bool → ℕ → Act) → Act
+onCondition (Truth v e) f = f v e
+onCondition (Refused n p) f = refuses n p
 
 -- the conditionals open then, or 8
 abbrev pub onBlocks : ℕ → ℕ → Option (List Conditional) → Act
@@ -84,16 +90,17 @@ onBlocks p e (some cs) = branches cs e
 abbrev pub openAct : Here → Bool → ℕ → Act
 openAct h b e = onBlocks (h .token .at) e (openBlock (h .frame .file) (h .token .at) b (h .state .conds))
 
-abbrev pub conditionAct : ℕ → Here → Value → ℕ → Act
-conditionAct d h v e =
-    cond (eqb d Elsif) (onBlocks (h .token .at) e (nextBlock (isDefined h v) false (h .state .conds)))
-    (openAct h (cond (eqb d Ifdef) (isDefined h v) (not (isDefined h v))) e)
+-- "`ifndef (c)` is `ifdef (!(c))`"
+abbrev pub conditionAct : ℕ → Here → Bool → ℕ → Act
+conditionAct d h b e =
+    cond (eqb d Elsif) (onBlocks (h .token .at) e (nextBlock b false (h .state .conds)))
+    (openAct h (cond (eqb d Ifdef) b (not b)) e)
 
 unfoldable pub conditionalAct : ℕ → Here → Act
 conditionalAct d h =
     cond (eqb d Endif) (onBlocks (h .token .at) (h .token .end) (closeBlock (h .state .conds)))
     (cond (eqb d Else) (onBlocks (h .token .at) (h .token .end) (nextBlock true true (h .state .conds)))
-    (onForm (h .token .at) (formHere d h) (conditionAct d h)))
+    (onCondition (conditionHere h) (conditionAct d h)))
 
 -- Definitions
 

@@ -1,7 +1,7 @@
 -- Which acts are asked for, and why.
 -- Assumes nothing.
 use Prim.Native.Nat.{ℕ, _<_, _≤_}
-use mathlib.Core.Bool.{true, false, not, _&&_}
+use mathlib.Core.Bool.{Bool, true, false, not, _&&_}
 use mathlib.Core.Option.{Option, some}
 use mathlib.Core.List.{List, []}
 use mathlib.Core.Path.{_≡_}
@@ -16,10 +16,11 @@ use Rattle.directive.specs.declared.FileName.the-variants.{Quoted, Angled}
 use Rattle.directive.specs.Include.{includeAt}
 use Rattle.definition.specs.Definitions.{Macro, barred, bad, good, definitionAt}
 use Rattle.store.specs.Stores.{undefine}
+use Rattle.conditions.specs.declared.Condition.the-variants.{Truth, Refused}
 use Rattle.blocks.specs.Blocks.{Conditional, takenBy, openBlock, nextBlock, closeBlock}
 use Rattle.handover.specs.Entries.{entryOf}
 use Rattle.turns.specs.States.{Here}
-use Rattle.turns.specs.Acts.{Act, refuses, leaves, copies, skips, hides, branches, defines, undefines, includes, keeps, spells, expands, formHere, nameIn, isDefined, fileWord, lineWord}
+use Rattle.turns.specs.Acts.{Act, refuses, leaves, copies, skips, hides, branches, defines, undefines, includes, keeps, spells, expands, formHere, conditionHere, nameIn, fileWord, lineWord}
 
 -- a token that 2 to 6 do not bar, before the end of the file
 pub record Reading (h : Here) : Type 0 where
@@ -48,6 +49,7 @@ EndsIn h e = h .token .end ≤ length (h .body) → EndsAt h e
 pub data Refusal (h : Here) : ℕ → ℕ → Type 0 where
   of-token : eqb (h .token .bar) 0 ≡ false → Refusal h (h .token .bar) (h .token .at)
   of-form : (d : ℕ) {n p : ℕ} → formHere d h ≡ Barred n p → Refusal h n p
+  of-condition : {n p : ℕ} → conditionHere h ≡ Refused n p → Refusal h n p
   of-definition : {n p : ℕ} → definitionAt (h .body) (h .token .end) ≡ barred n p → Refusal h n p
   of-line : eqb (includeAt (h .body) (h .token .end) .bars .number) 0 ≡ false
       → Refusal h (includeAt (h .body) (h .token .end) .bars .number) (includeAt (h .body) (h .token .end) .bars .place)
@@ -60,10 +62,9 @@ pub data DefinedTo (h : Here) (e : ℕ) : Type 0 where
 
 -- the conditionals open behind the conditional word d, which ends at e
 pub data Opens (h : Here) (d e : ℕ) : Option (List Conditional) → Type 0 where
-  by-ifdef : (v : Value) → d ≡ Ifdef → formHere d h ≡ Formed v e → Opens h d e (openBlock (h .frame .file) (h .token .at) (isDefined h v) (h .state .conds))
-  by-ifndef : (v : Value) → d ≡ Ifndef → formHere d h ≡ Formed v e
-      → Opens h d e (openBlock (h .frame .file) (h .token .at) (not (isDefined h v)) (h .state .conds))
-  by-elsif : (v : Value) → d ≡ Elsif → formHere d h ≡ Formed v e → Opens h d e (nextBlock (isDefined h v) false (h .state .conds))
+  by-ifdef : {b : Bool} → d ≡ Ifdef → conditionHere h ≡ Truth b e → Opens h d e (openBlock (h .frame .file) (h .token .at) b (h .state .conds))
+  by-ifndef : {b : Bool} → d ≡ Ifndef → conditionHere h ≡ Truth b e → Opens h d e (openBlock (h .frame .file) (h .token .at) (not b) (h .state .conds))
+  by-elsif : {b : Bool} → d ≡ Elsif → conditionHere h ≡ Truth b e → Opens h d e (nextBlock b false (h .state .conds))
   by-else : d ≡ Else → Opens h d e (nextBlock true true (h .state .conds))
   by-endif : d ≡ Endif → Opens h d e (closeBlock (h .state .conds))
 

@@ -1,7 +1,7 @@
 -- `choosing::choose` meets its contract.
 -- Assumes nothing.
 use borrow.Author.Tests.{ne-eqb}
-use Rattle.choosing.proofs.Choosing.{closes, turns, takes}
+use Rattle.choosing.proofs.Choosing.{closes, turns}
 use borrow.Author.Needs.{needs}
 use Rattle.choosing.proofs.choose.Statement.{statement}
 use Rattle.choosing.proofs.choose.Tie as tie
@@ -30,8 +30,8 @@ same-length-2 c = search needs
 returns-2 : tie.Need-returns-2
 returns-2 c h here = turns (c .before .before .before .before .before .before .before .before .args .d) here _ (c .before .before .next-block .result) _ (c .before .before .before .before .if2 .taken) (c .before .before .next-block .ensures) (c .chosen-by2 .ensures)
 
-choose-by-name-requires : tie.Need-choose-by-name-requires
-choose-by-name-requires c κs = (search needs, takes _ (c .before .before .before .before .before .pre .1) (c .before .before .before .before .before .pre .2) (c .before .before .if1 .left) (c .before .if2 .left), ne-eqb _ _ (c .before .if2 .left), ne-eqb _ _ (c .before .before .if1 .left))
+choose-by-condition-requires : tie.Need-choose-by-condition-requires
+choose-by-condition-requires c κs = (search needs, search needs, ne-eqb _ _ (c .before .if2 .left), ne-eqb _ _ (c .before .before .if1 .left))
 
 same-length-3 : tie.Need-same-length-3
 same-length-3 c = search needs
@@ -51,6 +51,6 @@ choose-spec =
     chosen-by-requires-2
     same-length-2
     returns-2
-    choose-by-name-requires
+    choose-by-condition-requires
     same-length-3
     returns-3)

@@ -19,15 +19,28 @@ returns : tie.Need-returns
 unfolding pastDirective
 returns c = rw (eq-eqb _ _ (c .before .before .before .before .before .before .before .if1 .taken)) (c .before .before .before .before .past-definition .ensures)
 
+takes-condition-requires : tie.Need-takes-condition-requires
+takes-condition-requires c κs = search needs
+
+condition-form-requires : tie.Need-condition-form-requires
+condition-form-requires c κs = search needs
+
+past-condition-requires : tie.Need-past-condition-requires
+past-condition-requires c κs = search needs
+
+returns-2 : tie.Need-returns-2
+unfolding pastDirective
+returns-2 c = rw (ne-eqb _ _ (c .before .before .before .before .if1 .left), ← c .before .before .before .takes-condition .ensures, c .before .before .if2 .taken, ← c .before .condition-form .ensures) (c .past-condition .ensures)
+
 form-at-requires : tie.Need-form-at-requires
 form-at-requires c κs = search needs
 
 past-form-requires : tie.Need-past-form-requires
 past-form-requires c κs = search needs
 
-returns-2 : tie.Need-returns-2
+returns-3 : tie.Need-returns-3
 unfolding pastDirective
-returns-2 c = rw (ne-eqb _ _ (c .before .before .if1 .left), ← c .before .form-at .ensures) (c .past-form .ensures)
+returns-3 c = rw (ne-eqb _ _ (c .before .before .before .before .if1 .left), ← c .before .before .before .takes-condition .ensures, c .before .before .if2 .left, ← c .before .form-at .ensures) (c .past-form .ensures)
 
 pub past-directive-spec : {M : Type 1} → statement M
 past-directive-spec =
@@ -37,6 +50,10 @@ past-directive-spec =
     same-length
     same-length-2
     returns
+    takes-condition-requires
+    condition-form-requires
+    past-condition-requires
+    returns-2
     form-at-requires
     past-form-requires
-    returns-2)
+    returns-3)

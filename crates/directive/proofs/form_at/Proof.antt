@@ -6,15 +6,12 @@ use Rattle.directive.specs.Forms.{formAt}
 use Rattle.directive.proofs.form_at.Statement.{statement}
 use Rattle.directive.proofs.form_at.Tie as tie
 
-takes-name-requires : tie.Need-takes-name-requires
-takes-name-requires c κs = search needs
-
 name-form-requires : tie.Need-name-form-requires
 name-form-requires c κs = search needs
 
 returns : tie.Need-returns
 unfolding formAt
-returns c = simp (← c .before .before .takes-name .ensures, c .before .if1 .taken) (c .name-form .ensures)
+returns c = simp (eq-eqb _ _ (c .before .if1 .taken)) (c .name-form .ensures)
 
 stands-alone-requires : tie.Need-stands-alone-requires
 stands-alone-requires c κs = search needs
@@ -24,52 +21,51 @@ alone-value-requires c κs = search needs
 
 returns-2 : tie.Need-returns-2
 unfolding formAt
-returns-2 c = simp (← c .before .before .before .before .takes-name .ensures, c .before .before .before .if1 .left, ← c .before .before .stands-alone .ensures, c .before .if2 .taken, ← c .alone-value .ensures)
+returns-2 c = simp (ne-eqb _ _ (c .before .before .before .if1 .left), ← c .before .before .stands-alone .ensures, c .before .if2 .taken, ← c .alone-value .ensures)
 
 include-form-requires : tie.Need-include-form-requires
 include-form-requires c κs = search needs
 
 returns-3 : tie.Need-returns-3
 unfolding formAt
-returns-3 c = simp (← c .before .before .before .before .before .takes-name .ensures, c .before .before .before .before .if1 .left, ← c .before .before .before .stands-alone .ensures, c .before .before .if2 .left, eq-eqb _ _ (c .before .if3 .taken)) (c .include-form .ensures)
+returns-3 c = simp (ne-eqb _ _ (c .before .before .before .before .if1 .left), ← c .before .before .before .stands-alone .ensures, c .before .before .if2 .left, eq-eqb _ _ (c .before .if3 .taken)) (c .include-form .ensures)
 
 timescale-form-requires : tie.Need-timescale-form-requires
 timescale-form-requires c κs = search needs
 
 returns-4 : tie.Need-returns-4
 unfolding formAt
-returns-4 c = simp (← c .before .before .before .before .before .before .takes-name .ensures, c .before .before .before .before .before .if1 .left, ← c .before .before .before .before .stands-alone .ensures, c .before .before .before .if2 .left, ne-eqb _ _ (c .before .before .if3 .left), eq-eqb _ _ (c .before .if4 .taken)) (c .timescale-form .ensures)
+returns-4 c = simp (ne-eqb _ _ (c .before .before .before .before .before .if1 .left), ← c .before .before .before .before .stands-alone .ensures, c .before .before .before .if2 .left, ne-eqb _ _ (c .before .before .if3 .left), eq-eqb _ _ (c .before .if4 .taken)) (c .timescale-form .ensures)
 
 nettype-form-requires : tie.Need-nettype-form-requires
 nettype-form-requires c κs = search needs
 
 returns-5 : tie.Need-returns-5
 unfolding formAt
-returns-5 c = simp (← c .before .before .before .before .before .before .before .takes-name .ensures, c .before .before .before .before .before .before .if1 .left, ← c .before .before .before .before .before .stands-alone .ensures, c .before .before .before .before .if2 .left, ne-eqb _ _ (c .before .before .before .if3 .left), ne-eqb _ _ (c .before .before .if4 .left), eq-eqb _ _ (c .before .if5 .taken)) (c .nettype-form .ensures)
+returns-5 c = simp (ne-eqb _ _ (c .before .before .before .before .before .before .if1 .left), ← c .before .before .before .before .before .stands-alone .ensures, c .before .before .before .before .if2 .left, ne-eqb _ _ (c .before .before .before .if3 .left), ne-eqb _ _ (c .before .before .if4 .left), eq-eqb _ _ (c .before .if5 .taken)) (c .nettype-form .ensures)
 
 drive-form-requires : tie.Need-drive-form-requires
 drive-form-requires c κs = search needs
 
 returns-6 : tie.Need-returns-6
 unfolding formAt
-returns-6 c = simp (← c .before .before .before .before .before .before .before .before .takes-name .ensures, c .before .before .before .before .before .before .before .if1 .left, ← c .before .before .before .before .before .before .stands-alone .ensures, c .before .before .before .before .before .if2 .left, ne-eqb _ _ (c .before .before .before .before .if3 .left), ne-eqb _ _ (c .before .before .before .if4 .left), ne-eqb _ _ (c .before .before .if5 .left), eq-eqb _ _ (c .before .if6 .taken)) (c .drive-form .ensures)
+returns-6 c = simp (ne-eqb _ _ (c .before .before .before .before .before .before .before .if1 .left), ← c .before .before .before .before .before .before .stands-alone .ensures, c .before .before .before .before .before .if2 .left, ne-eqb _ _ (c .before .before .before .before .if3 .left), ne-eqb _ _ (c .before .before .before .if4 .left), ne-eqb _ _ (c .before .before .if5 .left), eq-eqb _ _ (c .before .if6 .taken)) (c .drive-form .ensures)
 
 version-form-requires : tie.Need-version-form-requires
 version-form-requires c κs = search needs
 
 returns-7 : tie.Need-returns-7
 unfolding formAt
-returns-7 c = simp (← c .before .before .before .before .before .before .before .before .before .takes-name .ensures, c .before .before .before .before .before .before .before .before .if1 .left, ← c .before .before .before .before .before .before .before .stands-alone .ensures, c .before .before .before .before .before .before .if2 .left, ne-eqb _ _ (c .before .before .before .before .before .if3 .left), ne-eqb _ _ (c .before .before .before .before .if4 .left), ne-eqb _ _ (c .before .before .before .if5 .left), ne-eqb _ _ (c .before .before .if6 .left), eq-eqb _ _ (c .before .if7 .taken)) (c .version-form .ensures)
+returns-7 c = simp (ne-eqb _ _ (c .before .before .before .before .before .before .before .before .if1 .left), ← c .before .before .before .before .before .before .before .stands-alone .ensures, c .before .before .before .before .before .before .if2 .left, ne-eqb _ _ (c .before .before .before .before .before .if3 .left), ne-eqb _ _ (c .before .before .before .before .if4 .left), ne-eqb _ _ (c .before .before .before .if5 .left), ne-eqb _ _ (c .before .before .if6 .left), eq-eqb _ _ (c .before .if7 .taken)) (c .version-form .ensures)
 
 returns-8 : tie.Need-returns-8
 unfolding formAt
-returns-8 c = simp (← c .before .before .before .before .before .before .before .before .takes-name .ensures, c .before .before .before .before .before .before .before .if1 .left, ← c .before .before .before .before .before .before .stands-alone .ensures, c .before .before .before .before .before .if2 .left, ne-eqb _ _ (c .before .before .before .before .if3 .left), ne-eqb _ _ (c .before .before .before .if4 .left), ne-eqb _ _ (c .before .before .if5 .left), ne-eqb _ _ (c .before .if6 .left), ne-eqb _ _ (c .if7 .left))
+returns-8 c = simp (ne-eqb _ _ (c .before .before .before .before .before .before .before .if1 .left), ← c .before .before .before .before .before .before .stands-alone .ensures, c .before .before .before .before .before .if2 .left, ne-eqb _ _ (c .before .before .before .before .if3 .left), ne-eqb _ _ (c .before .before .before .if4 .left), ne-eqb _ _ (c .before .before .if5 .left), ne-eqb _ _ (c .before .if6 .left), ne-eqb _ _ (c .if7 .left))
 
 pub form-at-spec : {M : Type 1} → statement M
 form-at-spec =
     tie.close
     (tie.spec
-    takes-name-requires
     name-form-requires
     returns
     stands-alone-requires

@@ -23,9 +23,6 @@ loop-holds c = refl
 shared-slice-read-b : tie.Need-shared-slice-read-b Inv-loop μ-loop
 shared-slice-read-b c = search needs
 
-returns : tie.Need-returns Inv-loop μ-loop
-returns c = sym (start-solid _ _ (c .before .before .loop-test .taken) (c .if1 .taken)) ∙ c .before .before .before .loop .inv
-
 is-white-requires : tie.Need-is-white-requires Inv-loop μ-loop
 is-white-requires c κs = search needs
 
@@ -36,7 +33,10 @@ loop-less : tie.Need-loop-less Inv-loop μ-loop
 loop-less c = search needs
 
 loop-again : tie.Need-loop-again Inv-loop μ-loop
-loop-again c = sym (start-white _ _ (c .before .before .before .before .loop-test .taken) (sym (c .before .is-white .ensures) ∙ c .if2 .taken)) ∙ c .before .before .before .before .before .loop .inv
+loop-again c = sym (start-white _ _ (c .before .before .before .loop-test .taken) (sym (c .before .is-white .ensures) ∙ c .if1 .taken)) ∙ c .before .before .before .before .loop .inv
+
+returns : tie.Need-returns Inv-loop μ-loop
+returns c = sym (start-solid _ _ (c .before .before .before .before .loop-test .taken) (sym (c .before .before .is-white .ensures) ∙ c .before .if1 .left) (c .if2 .taken)) ∙ c .before .before .before .before .before .loop .inv
 
 in-file-requires : tie.Need-in-file-requires Inv-loop μ-loop
 in-file-requires c κs = search needs
@@ -67,11 +67,11 @@ word-start-spec =
     μ-loop
     loop-holds
     shared-slice-read-b
-    returns
     is-white-requires
     add-i
     loop-less
     loop-again
+    returns
     in-file-requires
     token-at-requires
     is-between-requires

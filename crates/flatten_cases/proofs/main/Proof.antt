@@ -13,7 +13,7 @@ front-fits : (m n : ℕ) (l : List ℕ) → length l ≡ length (replicate {A = 
 front-fits m n l e = omega (arith, e, length-take n l, length-replicate {A = ℕ} m 0)
 
 slice-aggregate-read-full : tie.Need-slice-aggregate-read-full
-slice-aggregate-read-full c = sym (length-replicate {A = ℕ} 1060000 0)
+slice-aggregate-read-full c = sym (length-replicate {A = ℕ} 1500000 0)
 
 read-full-requires : tie.Need-read-full-requires
 read-full-requires c κs = search needs
@@ -40,7 +40,7 @@ slice-aggregate-run-all-6 : tie.Need-slice-aggregate-run-all-6
 slice-aggregate-run-all-6 c = search needs
 
 run-all-requires : tie.Need-run-all-requires
-run-all-requires c κs = front-fits 1060000 (c .before .before .before .before .before .before .before .read-full .result) (c .before .before .before .before .before .before .before .read-full .last .1 .0) (c .before .before .before .before .before .before .before .read-full .kept .1 .0)
+run-all-requires c κs = front-fits 1500000 (c .before .before .before .before .before .before .before .read-full .result) (c .before .before .before .before .before .before .before .read-full .last .1 .0) (c .before .before .before .before .before .before .before .read-full .kept .1 .0)
 
 returns : tie.Need-returns
 returns c = search needs

@@ -76,7 +76,7 @@ returns-3 : tie.Need-returns-3 Inv-loop μ-loop
 returns-3 c = answers-upto (stopped (c .before .before .before .before .before)) (c .before .before .before .if1 .left) (c .before .before .part-of .ensures) (c .before .directive-of .ensures) (outside-word (c .before .directive-of .result) (c .if2 .taken))
 
 choose-requires : tie.Need-choose-requires Inv-loop μ-loop
-choose-requires c κs = (c .before .before .before .before .before .before .before .before .before .before .before .before .before .before .before .before .loop .inv .blocks-are, word-low _ (c .before .if2 .left), word-high _ (c .before .if2 .left))
+choose-requires c κs = (c .before .before .before .before .before .before .before .before .before .before .before .before .before .before .before .before .loop .inv .blocks-are, c .before .before .before .before .before .before .before .before .before .before .before .before .before .before .before .before .before .before .before .before .before .before .pre .3)
 
 enum-known-x : tie.Need-enum-known-x Inv-loop μ-loop
 enum-known-x c = search needs

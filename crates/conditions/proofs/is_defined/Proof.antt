@@ -1,8 +1,8 @@
--- `choosing::is_defined` meets its contract.
+-- `conditions::is_defined` meets its contract.
 -- Assumes nothing.
 use borrow.Author.Needs.{needs}
-use Rattle.choosing.proofs.is_defined.Statement.{statement}
-use Rattle.choosing.proofs.is_defined.Tie as tie
+use Rattle.conditions.proofs.is_defined.Statement.{statement}
+use Rattle.conditions.proofs.is_defined.Tie as tie
 
 find-requires : tie.Need-find-requires
 find-requires c κs = search needs
@@ -14,10 +14,10 @@ enum-told-2 : tie.Need-enum-told-2
 enum-told-2 c = search needs
 
 returns : tie.Need-returns
-returns c ms k = rw (← c .before .before .find .ensures ms k, c .enum-told .given .1)
+returns c ms h = simp (← c .before .before .find .ensures ms h, c .enum-told .given .1)
 
 returns-2 : tie.Need-returns-2
-returns-2 c ms k = rw (← c .before .before .find .ensures ms k, c .enum-told2 .given .1)
+returns-2 c ms h = simp (← c .before .before .find .ensures ms h, c .enum-told2 .given .1)
 
 pub is-defined-spec : {M : Type 1} → statement M
 is-defined-spec = tie.close (tie.spec find-requires enum-told enum-told-2 returns returns-2)

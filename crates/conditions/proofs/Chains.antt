@@ -82,18 +82,15 @@ pub by-value : (n y v : Bool) → (v && y || not v && n) ≡ cond v y n
 by-value n y true = or-false y
 by-value n y false = refl
 
-module _ (n y v : Bool) {n′ : Bool} where
-  pub implied : not v ≡ false → n′ ≡ n → (w : Bool) → cond (implies v w) y n ≡ cond w y n′
-  implied e f w = rw (not-false v e, f)
+-- .. behind an arrow whose left side is v
+pub implied : (n y v w : Bool) → cond (implies v w) y n ≡ cond w y (v && n || not v && y)
+implied n y true true = refl
+implied n y true false = sym (or-false n)
+implied n y false true = refl
+implied n y false false = refl
 
-  pub implied-not : not v ≡ true → n′ ≡ y → (w : Bool) → cond (implies v w) y n ≡ cond w y n′
-  implied-not e f true = rw (not-true v e)
-  implied-not e f false = rw (not-true v e, f)
-
-  module _ {y′ : Bool} where
-    pub equal : not v ≡ false → n′ ≡ n → y′ ≡ y → (w : Bool) → cond (equivalent v w) y n ≡ cond w y′ n′
-    equal e f g w = rw (not-false v e, f, g)
-
-    pub equal-not : not v ≡ true → n′ ≡ y → y′ ≡ n → (w : Bool) → cond (equivalent v w) y n ≡ cond w y′ n′
-    equal-not e f g true = rw (not-true v e, g)
-    equal-not e f g false = rw (not-true v e, f)
+pub equal : (n y v w : Bool) → cond (equivalent v w) y n ≡ cond w (v && y || not v && n) (v && n || not v && y)
+equal n y true true = sym (or-false y)
+equal n y true false = sym (or-false n)
+equal n y false true = refl
+equal n y false false = refl

@@ -33,11 +33,11 @@ unfolding conditioning same
 or-grouped = refl
 
 -- `!` binds before `&&`
-pub not-and : of (bytes "`ifdef (!C && A)") ≡ Truth true 16
+pub not-and : of (bytes "`ifdef (!A && C)") ≡ Truth false 16
 unfolding conditioning same
 not-and = refl
 
-pub not-grouped : of (bytes "`ifdef (!(C && A))") ≡ Truth true 18
+pub not-grouped : of (bytes "`ifdef (!(A && C))") ≡ Truth true 18
 unfolding conditioning same
 not-grouped = refl
 
@@ -46,9 +46,13 @@ unfolding conditioning same
 not-not = refl
 
 -- `||` binds before the arrows
-pub or-arrow : of (bytes "`ifdef (A->C||B)") ≡ Truth true 16
+pub or-arrow : of (bytes "`ifdef (A||C->C)") ≡ Truth false 16
 unfolding conditioning same
 or-arrow = refl
+
+pub arrow-grouped : of (bytes "`ifdef (A||(C->C))") ≡ Truth true 18
+unfolding conditioning same
+arrow-grouped = refl
 
 -- arrows group from the right: C -> (A -> C) holds, (C -> A) -> C does not
 pub arrows-right : of (bytes "`ifdef (C->A->C)") ≡ Truth true 16
@@ -59,14 +63,22 @@ pub arrows-left : of (bytes "`ifdef ((C->A)->C)") ≡ Truth false 18
 unfolding conditioning same
 arrows-left = refl
 
--- both arrows are of one rank: C <-> (C -> C) does not hold, (C <-> C) -> C neither, C -> (C <-> A) does
-pub both-arrows : of (bytes "`ifdef (C<->C->C)") ≡ Truth false 17
+-- both arrows are of one rank: C <-> (C -> A) does not hold, (C <-> C) -> A does; C -> (C <-> C) holds, (C -> C) <-> C does not
+pub equal-first : of (bytes "`ifdef (C<->C->A)") ≡ Truth false 17
 unfolding conditioning same
-both-arrows = refl
+equal-first = refl
 
-pub arrows-mixed : of (bytes "`ifdef (C->C<->A)") ≡ Truth true 17
+pub equal-grouped : of (bytes "`ifdef ((C<->C)->A)") ≡ Truth true 19
 unfolding conditioning same
-arrows-mixed = refl
+equal-grouped = refl
+
+pub implies-first : of (bytes "`ifdef (C->C<->C)") ≡ Truth true 17
+unfolding conditioning same
+implies-first = refl
+
+pub implies-grouped : of (bytes "`ifdef ((C->C)<->C)") ≡ Truth false 19
+unfolding conditioning same
+implies-grouped = refl
 
 -- white bytes and comments on one line between tokens; a newline is refused at itself
 pub comments : of (bytes "`ifdef/**/( A /* x */\t)//") ≡ Truth true 23

@@ -246,18 +246,14 @@ fn arrows(
         match r {
             Condition::Truth(v, p) => {
                 if two_at(s, p, 45, 62) {
-                    if !v {
-                        no = yes;
-                    }
+                    no = (v & no) | (!v & yes);
                     i = next_token(s, p + 2);
                     continue;
                 }
                 if three_at(s, p, 60, 45, 62) {
-                    if !v {
-                        let was = no;
-                        no = yes;
-                        yes = was;
-                    }
+                    let was = no;
+                    no = (v & no) | (!v & yes);
+                    yes = (v & yes) | (!v & was);
                     i = next_token(s, p + 3);
                     continue;
                 }

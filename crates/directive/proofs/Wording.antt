@@ -14,7 +14,7 @@ use Rattle.lex.specs.Classes.{isWhite, isDigit, isStart, isSign, isBase}
 use Rattle.lex.specs.Scans.{spanEnd}
 use Rattle.lex.specs.Tokens.{inFile, White, Newline, End, is, isGap, plain, stringToken, backslashToken, digitsToken, basedToken, escapedGrave, graveToken, signToken, tokenAt, tokens}
 use Rattle.lex.proofs.Tests.{by-test, true-false}
-use Rattle.lex.proofs.Progress.{Inside, token-past, token-at, token-ends, token-within}
+use Rattle.lex.proofs.Progress.{token-past, token-at, token-ends, token-within}
 use Rattle.lex.proofs.Listing.{tokens-out, file-mode, file-tokens, by-tokens}
 use Rattle.directive.specs.declared.Word.{Word}
 use Rattle.directive.specs.declared.Word.the-variants.{Found, Missing, Barred}
@@ -134,12 +134,6 @@ module _ (s : List ℕ) (P : ℕ → Type 0)
       (λ m j l q f p. p)
       (λ m j l q r f p. by-test P (isBetween s (tokenAt m s j))
       (λ e. r (rw f (file-mode (tokenAt inFile s j))) (rw f (next j l (rw f at e) p))) (λ e. p)) inFile i refl
-
-pub start-inside : (s : List ℕ) (i : ℕ) → i ≤ length s → Inside s i (wordStart s i)
-start-inside s i h =
-    by-start s (Inside s i)
-    (λ j l e p. record { past = omega (arith, p .past, token-ends inFile s j l); within = token-within inFile s j l }) i
-    (record { past = omega arith; within = h })
 
 pub start-past : (s : List ℕ) (i : ℕ) → i ≤ wordStart s i
 start-past s i = by-start s (λ (j : ℕ). i ≤ j) (λ j l e p. omega (arith, token-ends inFile s j l)) i (omega arith)

@@ -73,3 +73,8 @@ unfit = refl
 pub seven-first : flat "`elsif (A\n" ≡ says 7 9 0 (bytes "")
 unfolding flattening
 seven-first = refl
+
+-- a directive's name is not defined, and cannot be
+pub directive-name : flat "`ifdef (define)\nx\n`endif\n`define define\n" ≡ says 11 25 0 (bytes "\n")
+unfolding flattening
+directive-name = refl

@@ -2,7 +2,6 @@
 -- Assumes nothing.
 use Prim.Native.Nat.{ℕ, _+_, _-_, _*_, _<_}
 use mathlib.Core.Bool.{cond, _&&_, _||_, and-assoc, or-assoc}
-use mathlib.Core.Logic.{⊎-elim}
 use mathlib.Core.Path.{refl, sym}
 use native.Mathlib.Omega.{arith}
 use lib.ListN.{length}
@@ -12,7 +11,7 @@ use Rattle.conditions.specs.Reading.{differs}
 use Rattle.conditions.proofs.Parts.{start-level}
 use Rattle.conditions.proofs.Signs.{byte-inside}
 use Rattle.conditions.proofs.Loops.{ReadsOn, chained, operator-level, reads-start, chain-place, chain-refused, chain-ends, chain-next, chain-less, nots-next, nots-less, nots-end}
-use Rattle.conditions.proofs.Chains.{operandOf, andsOf, orsOf, arrowsOf, and-here, no-and, or-here, no-or, implies-here, equivalent-here, no-arrow, at-first, by-value, implied, implied-not, equal, equal-not}
+use Rattle.conditions.proofs.Chains.{operandOf, andsOf, orsOf, arrowsOf, and-here, no-and, or-here, no-or, implies-here, equivalent-here, no-arrow, at-first, by-value, implied, equal}
 use Rattle.conditions.proofs.Closing.{opens, names, closes-refused, closes, closes-not}
 use borrow.Fn.Kinds.{In}
 use borrow.Fn.PlainCycle.{Measures, is, falls, and}
@@ -156,42 +155,34 @@ arrows-two-at-requires : (t : ℕ) → arrows-lts.Need-two-at-requires (arrows-c
 arrows-two-at-requires t c κs = (chain-place (arrowsOf _ _) (c .before .before .before .before .loop .inv) (c .before .before .before .ors .ensures) (c .before .r .given .1) (c .before .before .before .before .before .before .before .pre .1 .1) .1 .inside .within, omega arith, omega arith)
 
 arrows-add-next-token : (t : ℕ) → arrows-lts.Need-add-next-token (arrows-calls t) (arrows-at t) arrows.Post arrows-Inv-loop arrows-μ-loop
-arrows-add-next-token t c = omega (arith, operator-level (arrowsOf (c .before .before .before .before .before .before .before .before .before .before .args .s .now) (c .before .before .before .before .before .before .before .before .before .before .args .left)) (implies-here (c .before .before .before .before .before .before .before .before .before .before .args .s .now) (c .before .before .before .before .r .given .0 .1 .0) (c .before .before .two-at .ensures) (c .before .if1 .taken)) .inside .within)
+arrows-add-next-token t c = omega (arith, operator-level (arrowsOf (c .before .before .before .before .before .before .before .before .before .args .s .now) (c .before .before .before .before .before .before .before .before .before .args .left)) (implies-here (c .before .before .before .before .before .before .before .before .before .args .s .now) (c .before .before .before .r .given .0 .1 .0) (c .before .two-at .ensures) (c .if1 .taken)) .inside .within)
 
 arrows-next-token-requires : (t : ℕ) → arrows-lts.Need-next-token-requires (arrows-calls t) (arrows-at t) arrows.Post arrows-Inv-loop arrows-μ-loop
 arrows-next-token-requires t c κs = tt
 
 arrows-loop-less : (t : ℕ) → arrows-lts.Need-loop-less (arrows-calls t) (arrows-at t) arrows.Post arrows-Inv-loop arrows-μ-loop
-arrows-loop-less t c = chain-less (arrowsOf _ _) (c .before .before .before .before .before .before .before .before .loop .inv) (c .before .before .before .before .before .before .before .ors .ensures) (c .before .before .before .before .before .r .given .1) (implies-here _ _ (c .before .before .before .two-at .ensures) (c .before .before .if1 .taken)) (c .next-token .ensures) (c .before .before .before .before .before .before .before .before .before .before .before .pre .1 .1)
+arrows-loop-less t c = chain-less (arrowsOf _ _) (c .before .before .before .before .before .before .before .loop .inv) (c .before .before .before .before .before .before .ors .ensures) (c .before .before .before .before .r .given .1) (implies-here _ _ (c .before .before .two-at .ensures) (c .before .if1 .taken)) (c .next-token .ensures) (c .before .before .before .before .before .before .before .before .before .before .pre .1 .1)
 
 arrows-loop-again : (t : ℕ) → arrows-lts.Need-loop-again (arrows-calls t) (arrows-at t) arrows.Post arrows-Inv-loop arrows-μ-loop
-arrows-loop-again t c =
-    let l = c .before .before .before .before .before .before .before .before .loop in
-    let v = c .before .before .before .before .before .r .given .0 .0 in
-    chain-next (arrowsOf _ _) (c .before .before .before .before .before .before .before .before .loop .inv) (c .before .before .before .before .before .before .before .ors .ensures) (c .before .before .before .before .before .r .given .1) (implies-here _ _ (c .before .before .before .two-at .ensures) (c .before .before .if1 .taken)) (c .next-token .ensures) _
-    (⊎-elim (λ x. implied-not (l .no) (l .yes) v (x .0 .taken) (x .1)) (λ x. implied (l .no) (l .yes) v (x .0 .left) (x .1)) (c .before .if2 .came))
+arrows-loop-again t c = chain-next (arrowsOf _ _) (c .before .before .before .before .before .before .before .loop .inv) (c .before .before .before .before .before .before .ors .ensures) (c .before .before .before .before .r .given .1) (implies-here _ _ (c .before .before .two-at .ensures) (c .before .if1 .taken)) (c .next-token .ensures) _ (implied (c .before .before .before .before .before .before .before .loop .no) (c .before .before .before .before .before .before .before .loop .yes) (c .before .before .before .before .r .given .0 .0))
 
 arrows-three-at-requires : (t : ℕ) → arrows-lts.Need-three-at-requires (arrows-calls t) (arrows-at t) arrows.Post arrows-Inv-loop arrows-μ-loop
 arrows-three-at-requires t c κs = (chain-place (arrowsOf _ _) (c .before .before .before .before .before .before .loop .inv) (c .before .before .before .before .before .ors .ensures) (c .before .before .before .r .given .1) (c .before .before .before .before .before .before .before .before .before .pre .1 .1) .1 .inside .within, omega arith, omega arith, omega arith)
 
 arrows-add-next-token-2 : (t : ℕ) → arrows-lts.Need-add-next-token-2 (arrows-calls t) (arrows-at t) arrows.Post arrows-Inv-loop arrows-μ-loop
-arrows-add-next-token-2 t c = omega (arith, operator-level (arrowsOf (c .before .before .before .before .before .before .before .before .before .before .before .before .args .s .now) (c .before .before .before .before .before .before .before .before .before .before .before .before .args .left)) (equivalent-here (c .before .before .before .before .before .before .before .before .before .before .before .before .args .s .now) (c .before .before .before .before .before .before .r .given .0 .1 .0) (c .before .before .before .before .two-at .ensures) (c .before .before .before .if1 .left) (c .before .before .three-at .ensures) (c .before .if3 .taken)) .inside .within)
+arrows-add-next-token-2 t c = omega (arith, operator-level (arrowsOf (c .before .before .before .before .before .before .before .before .before .before .before .args .s .now) (c .before .before .before .before .before .before .before .before .before .before .before .args .left)) (equivalent-here (c .before .before .before .before .before .before .before .before .before .before .before .args .s .now) (c .before .before .before .before .before .r .given .0 .1 .0) (c .before .before .before .two-at .ensures) (c .before .before .if1 .left) (c .before .three-at .ensures) (c .if2 .taken)) .inside .within)
 
 arrows-next-token-requires-2 : (t : ℕ) → arrows-lts.Need-next-token-requires-2 (arrows-calls t) (arrows-at t) arrows.Post arrows-Inv-loop arrows-μ-loop
 arrows-next-token-requires-2 t c κs = tt
 
 arrows-loop-less-2 : (t : ℕ) → arrows-lts.Need-loop-less-2 (arrows-calls t) (arrows-at t) arrows.Post arrows-Inv-loop arrows-μ-loop
-arrows-loop-less-2 t c = chain-less (arrowsOf _ _) (c .before .before .before .before .before .before .before .before .before .before .loop .inv) (c .before .before .before .before .before .before .before .before .before .ors .ensures) (c .before .before .before .before .before .before .before .r .given .1) (equivalent-here _ _ (c .before .before .before .before .before .two-at .ensures) (c .before .before .before .before .if1 .left) (c .before .before .before .three-at .ensures) (c .before .before .if3 .taken)) (c .next-token2 .ensures) (c .before .before .before .before .before .before .before .before .before .before .before .before .before .pre .1 .1)
+arrows-loop-less-2 t c = chain-less (arrowsOf _ _) (c .before .before .before .before .before .before .before .before .before .loop .inv) (c .before .before .before .before .before .before .before .before .ors .ensures) (c .before .before .before .before .before .before .r .given .1) (equivalent-here _ _ (c .before .before .before .before .two-at .ensures) (c .before .before .before .if1 .left) (c .before .before .three-at .ensures) (c .before .if2 .taken)) (c .next-token2 .ensures) (c .before .before .before .before .before .before .before .before .before .before .before .before .pre .1 .1)
 
 arrows-loop-again-2 : (t : ℕ) → arrows-lts.Need-loop-again-2 (arrows-calls t) (arrows-at t) arrows.Post arrows-Inv-loop arrows-μ-loop
-arrows-loop-again-2 t c =
-    let l = c .before .before .before .before .before .before .before .before .before .before .loop in
-    let v = c .before .before .before .before .before .before .before .r .given .0 .0 in
-    chain-next (arrowsOf _ _) (c .before .before .before .before .before .before .before .before .before .before .loop .inv) (c .before .before .before .before .before .before .before .before .before .ors .ensures) (c .before .before .before .before .before .before .before .r .given .1) (equivalent-here _ _ (c .before .before .before .before .before .two-at .ensures) (c .before .before .before .before .if1 .left) (c .before .before .before .three-at .ensures) (c .before .before .if3 .taken)) (c .next-token2 .ensures) _
-    (⊎-elim (λ x. equal-not (l .no) (l .yes) v (x .0 .taken) (x .1) (x .2)) (λ x. equal (l .no) (l .yes) v (x .0 .left) (x .1) (x .2)) (c .before .if4 .came))
+arrows-loop-again-2 t c = chain-next (arrowsOf _ _) (c .before .before .before .before .before .before .before .before .before .loop .inv) (c .before .before .before .before .before .before .before .before .ors .ensures) (c .before .before .before .before .before .before .r .given .1) (equivalent-here _ _ (c .before .before .before .before .two-at .ensures) (c .before .before .before .if1 .left) (c .before .before .three-at .ensures) (c .before .if2 .taken)) (c .next-token2 .ensures) _ (equal (c .before .before .before .before .before .before .before .before .before .loop .no) (c .before .before .before .before .before .before .before .before .before .loop .yes) (c .before .before .before .before .before .before .r .given .0 .0))
 
 arrows-returns : (t : ℕ) → arrows-lts.Need-returns (arrows-calls t) (arrows-at t) arrows.Post arrows-Inv-loop arrows-μ-loop
-arrows-returns t c = chain-ends (arrowsOf _ _) (c .before .before .before .before .before .before .before .before .loop .inv) (c .before .before .before .before .before .before .before .ors .ensures) (c .before .before .before .before .before .r .given .1) (no-arrow _ _ (c .before .before .before .two-at .ensures) (c .before .before .if1 .left) (c .before .three-at .ensures) (c .if3 .left)) (by-value _ _ (c .before .before .before .before .before .r .given .0 .0))
+arrows-returns t c = chain-ends (arrowsOf _ _) (c .before .before .before .before .before .before .before .before .loop .inv) (c .before .before .before .before .before .before .before .ors .ensures) (c .before .before .before .before .before .r .given .1) (no-arrow _ _ (c .before .before .before .two-at .ensures) (c .before .before .if1 .left) (c .before .three-at .ensures) (c .if2 .left)) (by-value _ _ (c .before .before .before .before .before .r .given .0 .0))
 
 arrows-enum-known-r-2 : (t : ℕ) → arrows-lts.Need-enum-known-r-2 (arrows-calls t) (arrows-at t) arrows.Post arrows-Inv-loop arrows-μ-loop
 arrows-enum-known-r-2 t c = search needs

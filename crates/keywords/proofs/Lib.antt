@@ -1,3 +1,5 @@
 pub mod Places
 pub mod Ordered
+pub mod Stretches
+pub mod Searching
 pub mod Claims

@@ -1,12 +1,16 @@
-// The reserved words as one ascending table: their bytes, where each starts, and the first version that has it.
-// A table is built anew wherever its name is used, so a caller makes the three once and lends them.
+// The reserved words as one ascending table: their bytes, where each starts, and the first version that has it. A table
+// is built anew wherever its name is used, so a caller makes the three once and lends them. A word is looked for among
+// the words of its first letter.
+mod letters;
+
 ghost use mathlib.Core.Path.{_≡_};
 ghost use Prim.Native.Nat.{_<_};
 ghost use Rattle.keywords.specs.Keywords.{isReserved, wordAt};
 ghost use Rattle.keywords.specs.Tables.{Tables, keywordBytes, keywordStarts};
-ghost use Rattle.text.specs.Order.{orderOf};
-use text::Order;
-use text::compare;
+ghost use Rattle.text.specs.Bytes.{same as sameBytes};
+use letters::stretch_of;
+use text::peek;
+use text::same;
 
 // The words written one after the other.
 pub const BYTES: [u8; 1443] =
@@ -477,14 +481,14 @@ pub const FIRSTS: [usize; 221] = [
     0,
 ];
 
-// How `word` and word k of the table stand in byte order.
-fn keyword_order(bytes: &[u8], starts: &[usize], word: &[u8], k: usize) -> Order
+// Whether `word` is word k of the table.
+fn is_word(bytes: &[u8], starts: &[usize], word: &[u8], k: usize) -> bool
     requires { ⌜ (now bytes ≡ keywordBytes) × (now starts ≡ keywordStarts) × (k < 221) ⌝ }
-    ensures { λ r. ⌜ r ≡ orderOf (now (word .entry)) (wordAt k) ⌝ }
+    ensures { λ r. ⌜ r ≡ sameBytes (now (word .entry)) (wordAt k) ⌝ }
 {
     let a = starts[k];
     let e = starts[k + 1];
-    compare(word, &bytes[a..e])
+    same(word, &bytes[a..e])
 }
 
 // Whether the version numbered `version` reserves `word`, by the three tables.
@@ -498,24 +502,16 @@ pub fn is_reserved(
     requires { ⌜ Tables (now bytes) (now starts) (now firsts) ⌝ }
     ensures { λ r. ⌜ r ≡ isReserved (now (word .entry)) version ⌝ }
 {
-    let mut low = 0;
-    let mut high = 221;
-    while low < high {
-        let middle = low + (high - low) / 2;
-        let order = keyword_order(bytes, starts, word, middle);
-        match order {
-            Order::Less => {
-                high = middle;
-                continue;
-            }
-            Order::Greater => {
-                low = middle + 1;
-                continue;
-            }
-            Order::Equal => {
-                return firsts[middle] <= version;
-            }
+    let stretch = stretch_of(peek(word, 0));
+    if (stretch.longest as usize) < word.len() {
+        return false;
+    }
+    let mut k = stretch.from as usize;
+    while k < stretch.end as usize {
+        if is_word(bytes, starts, word, k) {
+            return firsts[k] <= version;
         }
+        k += 1;
     }
     false
 }

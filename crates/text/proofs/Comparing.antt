@@ -1,17 +1,16 @@
 -- The laws of byte order: as the loop of `compare` meets them, and as an order. Assumes nothing.
 use mathlib.Core.Path.{_≡_, refl, sym, _∙_}
-use mathlib.Core.Bool.{Bool, true, false, _&&_}
+use mathlib.Core.Bool.{Bool, true, false}
 use mathlib.Core.List.{List, [], _∷_}
-use Prim.Native.Nat.{ℕ, zero, suc, _+_, _≤_, _<_}
+use Prim.Native.Nat.{ℕ, _+_, _≤_, _<_}
 use native.Mathlib.Numerals.{add-one}
 use native.Mathlib.Omega.{arith}
-use lib.Dec.{ltb, eqb}
+use lib.Dec.{ltb}
 use lib.ListN.{length, drop, getD, drop-of-length-le}
 use lib.Seq.{drop-cons}
-use borrow.Author.Tests.{ltb-true, ltb-false, lt-ltb, le-ltb, eq-eqb, ne-eqb}
+use borrow.Author.Tests.{ltb-true, ltb-false, lt-ltb, le-ltb}
 use Rattle.text.specs.declared.Order.{Order}
 use Rattle.text.specs.declared.Order.the-variants.{Less, Equal, Greater}
-use Rattle.text.specs.Bytes.{same}
 use Rattle.text.specs.Order.{orderOf, byFirst}
 
 -- what the loop of `compare` has shown at index i: the bytes before it agree
@@ -82,23 +81,11 @@ order-turned [] (y ∷ b) = refl
 order-turned (x ∷ a) [] = refl
 order-turned (x ∷ a) (y ∷ b) = rw (order-turned a b) (turned-first (by-first x y (orderOf a b)))
 
--- two strings are the same exactly where they are equal in order
+-- two strings are equal in order only where they are the same
 abbrev pub isEqual : Order → Bool
 isEqual Less = false
 isEqual Equal = true
 isEqual Greater = false
-
-same-first : {x y : ℕ} {o r : Order} → First x y o r → (eqb x y && isEqual o) ≡ isEqual r
-same-first {x} {y} (lower l) = rw (ne-eqb x y (λ e. omega arith))
-same-first {x} {y} (higher g) = rw (ne-eqb x y (λ e. omega arith))
-same-first {x} {y} (level e) = rw (eq-eqb x y e)
-
-pub same-order : (a b : List ℕ) → same a b ≡ isEqual (orderOf a b)
-unfolding orderOf same
-same-order [] [] = refl
-same-order [] (y ∷ b) = refl
-same-order (x ∷ a) [] = refl
-same-order (x ∷ a) (y ∷ b) = rw (same-order a b) (same-first (by-first x y (orderOf a b)))
 
 equal-first : {x y : ℕ} {o r : Order} {a b : List ℕ} → First x y o r → (o ≡ Equal → a ≡ b) → r ≡ Equal → x ∷ a ≡ y ∷ b
 equal-first (lower l) h q = cc

@@ -62,7 +62,7 @@ fn run_all(s: &[u8]) {
 }
 
 fn main() {
-    let mut input = [0u8; 210000];
+    let mut input = [0u8; 262144];
     let n = io::read_full(STDIN_FILENO, &mut input);
     run_all(&input[..n]);
 }

@@ -1,4 +1,4 @@
--- The search down a stretch: a word is no word outside the stretch of its first byte, so the answer is by that stretch.
+-- The search down a stretch: a word stands nowhere outside the stretch of its first byte, so the answer is found in it.
 -- Assumes nothing.
 use mathlib.Core.Path.{_≡_, refl, sym, ap, _∙_}
 use mathlib.Core.Bool.{Bool, true, false, and-false}

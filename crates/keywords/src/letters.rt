@@ -1,7 +1,7 @@
 // The stretch of the table that each first letter has.
 ghost use Rattle.keywords.specs.Letters.{StretchOf};
 
-// The words of the table from `from` to before `end`, none longer than `longest`.
+// The words of the table from `from` to before `end`, and the length of the longest.
 pub struct Stretch {
     pub from: u8,
     pub end: u8,

@@ -1,76 +1,125 @@
-// The technician's command: flattens the files that its arguments name. What it answers goes to file descriptor 3 as one
-// digit: 0 for a flat text, 1 for a refusal, 2 for bad usage or files that cannot be read or written.
+// The technician's command: flattens the files that its arguments name. The wrapper `bin/arborstitch` runs it and exits with
+// what it answers on descriptor 3, one digit: 0 for a flat text, 1 for a refusal, 2 for bad usage or files that cannot be read or
+// written.
 mod answering;
-mod asking;
 mod help;
 
-use answering::DONE;
-use answering::FAILED;
 use answering::list_words;
 use answering::perform;
-use asking::Job;
-use asking::Turn;
-use asking::read_arguments;
+use answers::DONE;
+use answers::FAILED;
+use command_line::read_words;
+use messages::WRAPPER;
+use messages::complain;
 use options::CLASSIFY;
+use options::SHOW_HELP;
+use options::SHOW_VERSION;
+use plan::CLASH;
+use plan::COMMAND;
+use plan::get;
+use plan_checks::check_plan;
+use sources::make_entry;
+use sources::read_all;
 
-// Does what is asked with as much of the tables as is filled in.
-fn answer_job(
-    j: Job,
-    store: &[u8],
-    table: &[[u32; 5]],
-    paths: &[[u32; 2]],
-    starts: &[[u32; 2]],
-    words: &mut [[u32; 3]],
+// Reads the files and does what is asked with them.
+fn run(
+    line: &[u8],
+    rows: &[[u32; 5]],
+    plan: &mut [usize],
+    store: &mut [u8],
+    table: &mut [[u32; 5]],
+    paths: &mut [[u32; 3]],
+    starts: &mut [[u32; 2]],
     bytes: &mut [u8],
 ) -> u8 {
-    let n = j.files;
-    let m = j.starts;
-    if table.len() < n {
+    if !read_all(line, rows, plan, store, table, paths, starts) {
         return FAILED;
     }
-    if paths.len() < n {
-        return FAILED;
+    if get(plan, COMMAND) == CLASSIFY {
+        return list_words(plan, store, table, paths);
     }
-    if starts.len() < m {
-        return FAILED;
-    }
-    perform(
-        j,
-        store,
-        &table[0..n],
-        &paths[0..n],
-        &starts[0..m],
-        words,
-        bytes,
-    )
+    perform(line, rows, plan, store, table, paths, starts, bytes)
 }
 
-// Reads the arguments and the files, and does what they ask.
-fn answer(store: &mut [u8], words: &mut [[u32; 3]], bytes: &mut [u8]) -> u8 {
+// Carries out a plan: one that cannot be carried out touches nothing; a run that does not succeed leaves no outputs.
+fn carry_out(
+    line: &[u8],
+    rows: &[[u32; 5]],
+    plan: &mut [usize],
+    store: &mut [u8],
+    bytes: &mut [u8],
+) -> u8 {
     let mut table = [[0u32; 5]; 64];
-    let mut paths = [[0u32; 2]; 64];
+    let mut paths = [[0u32; 3]; 64];
     let mut starts = [[0u32; 2]; 257];
-    let t = read_arguments(store, &mut table, &mut paths, &mut starts);
-    match t {
-        Turn::Bad => FAILED,
-        Turn::Help => {
-            help::print_help();
-            DONE
-        }
-        Turn::On(j) => {
-            if j.command == CLASSIFY {
-                return list_words(j.set, store, &table, &paths, words);
-            }
-            answer_job(j, store, &table, &paths, &starts, words, bytes)
-        }
+    if !check_plan(line, rows, plan) {
+        return FAILED;
     }
+    if !make_entry(line, rows, plan, store, &mut table, &mut paths) {
+        return FAILED;
+    }
+    let digit = run(
+        line,
+        rows,
+        plan,
+        store,
+        &mut table,
+        &mut paths,
+        &mut starts,
+        bytes,
+    );
+    if (digit != DONE) & (get(plan, CLASH) == 0) {
+        delivery::set_all_aside(line, plan);
+    }
+    digit
+}
+
+// Reads the command line and does what it asks.
+fn answer(
+    line: &mut [u8],
+    words: &mut [[u32; 2]],
+    rows: &mut [[u32; 5]],
+    plan: &mut [usize],
+    store: &mut [u8],
+    bytes: &mut [u8],
+) -> u8 {
+    if !read_words(line, words, rows, plan) {
+        return FAILED;
+    }
+    if get(plan, COMMAND) == SHOW_HELP {
+        help::print_help();
+        return DONE;
+    }
+    if get(plan, COMMAND) == SHOW_VERSION {
+        help::print_version();
+        return DONE;
+    }
+    let heard = identity::of_descriptor(WRAPPER);
+    if !heard.found {
+        complain(
+            b"run bin/arborstitch",
+            b"this program alone has no exit status",
+        );
+        return FAILED;
+    }
+    carry_out(line, rows, plan, store, bytes)
 }
 
 // The store has one byte more than is taken, so that more shows.
 fn main() {
     let mut store = [0u8; 1048577];
-    let mut words = [[0u32; 3]; 131072];
+    let mut line = [0u8; 131072];
+    let mut words = [[0u32; 2]; 4096];
+    let mut rows = [[0u32; 5]; 1024];
+    let mut plan = [0usize; 50];
     let mut bytes = [0u8; 65536];
-    let digit = [answer(&mut store, &mut words, &mut bytes)];
-    io::write_all(3, &digit);
+    let digit = [answer(
+        &mut line,
+        &mut words,
+        &mut rows,
+        &mut plan,
+        &mut store,
+        &mut bytes,
+    )];
+    io::write_all(WRAPPER, &digit);
 }

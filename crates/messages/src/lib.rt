@@ -2,6 +2,9 @@
 ghost use Prim.Native.Nat.{_≤_};
 use libc::STDERR_FILENO;
 
+// The descriptor on which the wrapper `bin/arborstitch` listens: new files, each as `+PATH` on a line, then a digit.
+pub const WRAPPER: i32 = 3;
+
 pub fn say(w: &[u8]) {
     io::write_all(STDERR_FILENO, w);
 }
@@ -10,10 +13,14 @@ pub fn say_number(n: usize) {
     io::print_decimal(STDERR_FILENO, n as u64);
 }
 
-// `arborstitch: WHAT: WHY`
+pub fn first_line(w: &[u8]) -> &[u8] {
+    text::part_of(w, 0, line_end(w, 0))
+}
+
+// `arborstitch: WHAT: WHY`; of WHAT its first line.
 pub fn complain(what: &[u8], why: &[u8]) {
     say(b"arborstitch: ");
-    say(what);
+    say(first_line(what));
     say(b": ");
     say(why);
     say(b"\n");

@@ -1,5 +1,6 @@
--- `arborstitch::answering::flatten_files` is safe: the text and the map are as long as they say, before and after.
+-- `arborstitch::answering::flatten_files` is safe: the text, the map and the words are as long as they say, before and after.
 -- Assumes nothing.
+use borrow.Author.Needs.{needs}
 use mathlib.Core.Path.{_≡_, sym, _∙_}
 use mathlib.Core.List.{List}
 use Prim.Native.Nat.{ℕ}
@@ -11,29 +12,41 @@ use Rattle.arborstitch.proofs.answering.flatten_files.Tie as tie
 as-long : (n : ℕ) (xs : List ℕ) → length xs ≡ length (replicate {A = ℕ} n 0) → n ≡ length xs
 as-long n xs e = sym (e ∙ length-replicate {A = ℕ} n 0)
 
-slice-aggregate-flatten : tie.Need-slice-aggregate-flatten
-slice-aggregate-flatten c = filled 2097152
+slice-aggregate-flatten-found : tie.Need-slice-aggregate-flatten-found
+slice-aggregate-flatten-found c = filled 2097152
 
-slice-aggregate-flatten-2 : tie.Need-slice-aggregate-flatten-2
-slice-aggregate-flatten-2 c = filled 131072
+slice-aggregate-flatten-found-2 : tie.Need-slice-aggregate-flatten-found-2
+slice-aggregate-flatten-found-2 c = filled 131072
 
-flatten-requires : tie.Need-flatten-requires
-flatten-requires c κs = tt
+flatten-found-requires : tie.Need-flatten-found-requires
+flatten-found-requires c κs = tt
 
 slice-aggregate-finish : tie.Need-slice-aggregate-finish
-slice-aggregate-finish c = as-long 2097152 (c .before .before .before .before .before .before .flatten .last .1 .1 .1 .1 .1 .1 .0) (c .before .before .before .before .before .before .flatten .kept .1 .1 .1 .1 .1 .1 .0)
+slice-aggregate-finish c = as-long 2097152 (c .before .before .before .before .before .before .before .before .before .before .before .before .before .before .before .before .before .flatten-found .last .1 .1 .1 .1 .1 .1 .1 .0) (c .before .before .before .before .before .before .before .before .before .before .before .before .before .before .before .before .before .flatten-found .kept .1 .1 .1 .1 .1 .1 .1 .0)
 
 slice-aggregate-finish-2 : tie.Need-slice-aggregate-finish-2
-slice-aggregate-finish-2 c = as-long 131072 (c .before .before .before .before .before .before .before .flatten .last .1 .1 .1 .1 .1 .1 .1 .0) (c .before .before .before .before .before .before .before .flatten .kept .1 .1 .1 .1 .1 .1 .1 .0)
+slice-aggregate-finish-2 c = as-long 131072 (c .before .before .before .before .before .before .before .before .before .before .before .before .before .before .before .before .before .before .flatten-found .last .1 .1 .1 .1 .1 .1 .1 .1 .0) (c .before .before .before .before .before .before .before .before .before .before .before .before .before .before .before .before .before .before .flatten-found .kept .1 .1 .1 .1 .1 .1 .1 .1 .0)
+
+slice-aggregate-finish-3 : tie.Need-slice-aggregate-finish-3
+slice-aggregate-finish-3 c = search needs
 
 finish-requires : tie.Need-finish-requires
 finish-requires c κs = tt
 
 same-length : tie.Need-same-length
-same-length c = c .before .before .finish .kept .1 .1 .1 .1 .1 .1 .1 .1 .1 .0
+same-length c = (c .before .before .before .finish .kept .1 .1 .1 .1 .0) ∙ (c .before .before .before .before .before .before .before .before .before .before .before .before .before .before .before .before .before .before .before .before .before .before .before .before .flatten-found .kept .1 .1 .0)
 
 same-length-2 : tie.Need-same-length-2
-same-length-2 c = c .before .before .before .before .before .before .before .before .before .before .before .flatten .kept .1 .1 .1 .1 .1 .1 .1 .1 .0
+same-length-2 c = c .before .before .before .before .before .before .before .before .before .before .before .before .before .before .before .before .before .before .before .before .before .before .before .before .flatten-found .kept .1 .1 .1 .0
+
+same-length-3 : tie.Need-same-length-3
+same-length-3 c = c .before .before .before .before .before .before .before .before .before .before .before .before .before .before .before .before .before .before .before .before .before .before .before .before .flatten-found .kept .1 .1 .1 .1 .0
+
+same-length-4 : tie.Need-same-length-4
+same-length-4 c = c .before .before .before .before .before .before .before .before .before .before .before .before .before .before .before .before .before .before .before .before .before .before .before .before .flatten-found .kept .1 .1 .1 .1 .1 .0
+
+same-length-5 : tie.Need-same-length-5
+same-length-5 c = c .before .before .before .before .before .before .before .before .before .before .before .before .before .before .before .before .before .before .before .before .before .before .before .before .flatten-found .kept .1 .1 .1 .1 .1 .1 .1 .1 .1 .0
 
 returns : tie.Need-returns
 returns c = tt
@@ -42,12 +55,16 @@ pub flatten-files-spec : {M : Type 1} → statement M
 flatten-files-spec =
     tie.close
     (tie.spec
-    slice-aggregate-flatten
-    slice-aggregate-flatten-2
-    flatten-requires
+    slice-aggregate-flatten-found
+    slice-aggregate-flatten-found-2
+    flatten-found-requires
     slice-aggregate-finish
     slice-aggregate-finish-2
+    slice-aggregate-finish-3
     finish-requires
     same-length
     same-length-2
+    same-length-3
+    same-length-4
+    same-length-5
     returns)

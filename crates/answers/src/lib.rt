@@ -7,6 +7,7 @@ use messages::say;
 use messages::say_refusal;
 use messages::say_refused;
 use options::PASS;
+use own::Own;
 use plan::BROKEN;
 use plan::FILES;
 use plan::LINE_COUNT;
@@ -97,6 +98,23 @@ fn words_of(line: &[u8], plan: &[usize], flat: &[u8], words: &mut [[u32; 3]]) ->
     classify::classify(flat, (get(plan, SET) % 4) as u32, words)
 }
 
+// How much there is to write.
+fn note_counts(r: Flattened, c: Classified, plan: &mut [usize]) {
+    put(plan, LINE_COUNT, r.lines);
+    put(plan, WORD_COUNT, c.words);
+    put(plan, MACRO_COUNT, r.macros);
+}
+
+fn answer_written(written: bool, r: Flattened, plan: &[usize]) -> u8 {
+    if !written {
+        return FAILED;
+    }
+    if get(plan, QUIET) == 0 {
+        sum_up(r);
+    }
+    DONE
+}
+
 // Writes what is asked of a flat text, unless its words are refused.
 fn write_flat(
     r: Flattened,
@@ -108,20 +126,18 @@ fn write_flat(
     paths: &[[u32; 3]],
     text: &[u8],
     map: &[u32],
-    words: &mut [[u32; 3]],
     included: &[u32],
     bytes: &[u8],
     records: [Record; 4096],
 ) -> u8 {
+    let mut words = [[0u32; 3]; 131072];
     let flat = part_of(text, 0, r.written);
-    let c = words_of(line, plan, flat, words);
+    let c = words_of(line, plan, flat, &mut words);
     if c.number != 0 {
         say_refusal(b"(flat text)", flat, c.number, c.line, c.byte);
         return REFUSED;
     }
-    put(plan, LINE_COUNT, r.lines);
-    put(plan, WORD_COUNT, c.words);
-    put(plan, MACRO_COUNT, r.macros);
+    note_counts(r, c, plan);
     let written = deliver(
         line,
         rows,
@@ -131,18 +147,12 @@ fn write_flat(
         table,
         paths,
         map,
-        words,
+        &words,
         included,
         bytes,
         records,
     );
-    if !written {
-        return FAILED;
-    }
-    if get(plan, QUIET) == 0 {
-        sum_up(r);
-    }
-    DONE
+    answer_written(written, r, plan)
 }
 
 // A flattening that is refused, or that could not read a file on the way.
@@ -210,7 +220,6 @@ fn finish_with(
     starts: &[[u32; 2]],
     text: &[u8],
     map: &[u32],
-    words: &mut [[u32; 3]],
     bytes: &[u8],
     records: [Record; 4096],
 ) -> u8 {
@@ -234,16 +243,21 @@ fn finish_with(
         paths,
         text,
         map,
-        words,
         &included,
         bytes,
         records,
     )
 }
 
+// What a flattening leaves: the digit, and the macro records.
+pub struct Left {
+    pub digit: u8,
+    pub records: [Record; 4096],
+}
+
 // The same, with as much of the tables as is filled in.
 pub fn finish(
-    r: Flattened,
+    o: Own,
     write: bool,
     line: &[u8],
     rows: &[[u32; 5]],
@@ -254,14 +268,14 @@ pub fn finish(
     starts: &[[u32; 2]],
     text: &[u8],
     map: &[u32],
-    words: &mut [[u32; 3]],
     bytes: &[u8],
-    records: [Record; 4096],
-) -> u8 {
+) -> Left {
+    let r = o.answer;
+    let records = o.records;
     let n = smaller(smaller(get(plan, FILES), table.len()), paths.len());
     let files = &table[0..n];
     let named = &paths[0..n];
-    finish_with(
+    let digit = finish_with(
         r,
         write,
         line,
@@ -273,10 +287,10 @@ pub fn finish(
         starts,
         text,
         map,
-        words,
         bytes,
         records,
-    )
+    );
+    Left { digit, records }
 }
 
 // Pass, or look up, on the macros that are left.

@@ -1,6 +1,7 @@
 // What the command does with the files that it read. Each answer is a digit.
 use answers::DONE;
 use answers::FAILED;
+use answers::Left;
 use answers::REFUSED;
 use answers::answer_macros;
 use answers::finish;
@@ -14,14 +15,7 @@ use plan::NAME;
 use plan::SET;
 use plan::get;
 use plan::range_at;
-use records::Record;
 use refusals::body_at;
-
-// What a flattening leaves: the digit, and the macro records.
-struct Left {
-    digit: u8,
-    records: [Record; 4096],
-}
 
 // Flattens into a text and a map of its own, and finishes.
 fn flatten_files(
@@ -37,7 +31,6 @@ fn flatten_files(
 ) -> Left {
     let mut text = [0u8; 2097152];
     let mut map = [0u32; 131072];
-    let mut words = [[0u32; 3]; 131072];
     let o = flatten_found(
         line,
         rows,
@@ -50,10 +43,8 @@ fn flatten_files(
         &mut map,
         bytes,
     );
-    let r = o.answer;
-    let records = o.records;
-    let digit = finish(
-        r,
+    finish(
+        o,
         write,
         line,
         rows,
@@ -64,11 +55,8 @@ fn flatten_files(
         starts,
         &text,
         &map,
-        &mut words,
         bytes,
-        records,
-    );
-    Left { digit, records }
+    )
 }
 
 // Flattens, and answers what is asked. `flatten_files` and `answer_macros` have two calls that differ, so each keeps a frame of

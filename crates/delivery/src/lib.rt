@@ -207,6 +207,14 @@ fn write_all(
     deliver_text(line, plan, flat, store, table, paths, map, bytes, records)
 }
 
+fn give_up(line: &[u8], plan: &[usize]) -> bool {
+    complain(
+        output_path(line, plan, TEXT),
+        b"other runs keep writing the same outputs",
+    );
+    false
+}
+
 // Writes all outputs and puts them in place: all of them, or none. Where another run put one of its own in place meanwhile, all
 // are written again, so that a text and its map are always of one run.
 pub fn deliver(
@@ -247,9 +255,5 @@ pub fn deliver(
         }
         k += 1;
     }
-    complain(
-        output_path(line, plan, TEXT),
-        b"other runs keep writing the same outputs",
-    );
-    false
+    give_up(line, plan)
 }

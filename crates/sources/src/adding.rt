@@ -171,6 +171,33 @@ fn form_of(kind: u32) -> u32 {
     if kind == ANGLED { 1 } else { 0 }
 }
 
+// Opens the file of that path, or standard input.
+fn open_source(kind: u32, path: &[u8]) -> i32 {
+    if kind == INPUT {
+        return STDIN_FILENO;
+    }
+    open_input(path)
+}
+
+// Puts the path of a file into the store from `at` on; where it ends.
+fn put_path(kind: u32, path: &[u8], store: &mut [u8], at: usize) -> usize {
+    if kind == INPUT {
+        return append(store, at, b"(standard input)");
+    }
+    append(store, at, path)
+}
+
+// How many bytes of the path of row `i` are not in its entry's name.
+fn cut_of(i: usize, kind: u32, line: &[u8], rows: &[[u32; 5]]) -> usize {
+    if kind == INPUT {
+        return 0;
+    }
+    less(
+        word_at(line, rows, i).len(),
+        entry_name(i, line, rows).len(),
+    )
+}
+
 // Adds the file of row `i`, which is of that kind. A root is the root entry where the command makes none.
 pub fn add_file(
     i: usize,
@@ -183,34 +210,18 @@ pub fn add_file(
     paths: &mut [[u32; 3]],
 ) -> bool {
     let at = get(plan, STORED);
-    let name = entry_name(i, line, rows);
     let path = word_at(line, rows, i);
     if !has_place(path, plan, table) {
         return false;
     }
     note_root(kind, plan);
-    let form = form_of(kind);
-    if kind == INPUT {
-        let end = append(store, at, b"(standard input)");
-        return read_in(
-            STDIN_FILENO,
-            at,
-            end,
-            0,
-            kind,
-            form,
-            plan,
-            store,
-            table,
-            paths,
-        );
-    }
-    let fd = open_input(path);
+    let fd = open_source(kind, path);
     if fd < 0 {
         return false;
     }
-    let end = append(store, at, path);
-    let cut = less(path.len(), name.len());
+    let end = put_path(kind, path, store, at);
+    let cut = cut_of(i, kind, line, rows);
+    let form = form_of(kind);
     read_in(fd, at, end, cut, kind, form, plan, store, table, paths)
 }
 

@@ -8,10 +8,10 @@ use Rattle.delivery.proofs.deliver.Statement.{statement}
 use Rattle.delivery.proofs.deliver.Tie as tie
 
 abbrev Inv-loop : tie.InvT-loop
-Inv-loop line rows plan₀ flat store table paths map words included bytes records k₀ t15 plan k = length plan ≡ length plan₀
+Inv-loop line rows plan₀ flat store table paths map words included bytes records k₀ plan k = length plan ≡ length plan₀
 
 abbrev μ-loop : tie.MeasureT-loop
-μ-loop line rows plan₀ flat store table paths map words included bytes records k₀ t15 plan k = 100 - k
+μ-loop line rows plan₀ flat store table paths map words included bytes records k₀ plan k = 100 - k
 
 loop-holds : tie.Need-loop-holds Inv-loop μ-loop
 loop-holds c = search needs
@@ -46,14 +46,8 @@ loop-less c = search needs
 loop-again : tie.Need-loop-again Inv-loop μ-loop
 loop-again c = search needs
 
-output-path-requires : tie.Need-output-path-requires Inv-loop μ-loop
-output-path-requires c κs = search needs
-
-slice-aggregate-complain : tie.Need-slice-aggregate-complain Inv-loop μ-loop
-slice-aggregate-complain c = search needs
-
-complain-requires : tie.Need-complain-requires Inv-loop μ-loop
-complain-requires c κs = search needs
+give-up-requires : tie.Need-give-up-requires Inv-loop μ-loop
+give-up-requires c κs = search needs
 
 same-length-3 : tie.Need-same-length-3 Inv-loop μ-loop
 same-length-3 c = search needs
@@ -78,8 +72,6 @@ deliver-spec =
     add-k
     loop-less
     loop-again
-    output-path-requires
-    slice-aggregate-complain
-    complain-requires
+    give-up-requires
     same-length-3
     returns-3)

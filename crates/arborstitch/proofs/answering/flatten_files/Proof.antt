@@ -1,6 +1,5 @@
--- `arborstitch::answering::flatten_files` is safe: the text, the map and the words are as long as they say, before and after.
+-- `arborstitch::answering::flatten_files` is safe: the text and the map are as long as they say, before and after.
 -- Assumes nothing.
-use borrow.Author.Needs.{needs}
 use mathlib.Core.Path.{_≡_, sym, _∙_}
 use mathlib.Core.List.{List}
 use Prim.Native.Nat.{ℕ}
@@ -22,31 +21,28 @@ flatten-found-requires : tie.Need-flatten-found-requires
 flatten-found-requires c κs = tt
 
 slice-aggregate-finish : tie.Need-slice-aggregate-finish
-slice-aggregate-finish c = as-long 2097152 (c .before .before .before .before .before .before .before .before .before .before .before .before .before .before .before .before .before .flatten-found .last .1 .1 .1 .1 .1 .1 .1 .0) (c .before .before .before .before .before .before .before .before .before .before .before .before .before .before .before .before .before .flatten-found .kept .1 .1 .1 .1 .1 .1 .1 .0)
+slice-aggregate-finish c = as-long 2097152 (c .before .before .before .before .before .before .before .before .before .before .before .before .before .before .before .flatten-found .last .1 .1 .1 .1 .1 .1 .1 .0) (c .before .before .before .before .before .before .before .before .before .before .before .before .before .before .before .flatten-found .kept .1 .1 .1 .1 .1 .1 .1 .0)
 
 slice-aggregate-finish-2 : tie.Need-slice-aggregate-finish-2
-slice-aggregate-finish-2 c = as-long 131072 (c .before .before .before .before .before .before .before .before .before .before .before .before .before .before .before .before .before .before .flatten-found .last .1 .1 .1 .1 .1 .1 .1 .1 .0) (c .before .before .before .before .before .before .before .before .before .before .before .before .before .before .before .before .before .before .flatten-found .kept .1 .1 .1 .1 .1 .1 .1 .1 .0)
-
-slice-aggregate-finish-3 : tie.Need-slice-aggregate-finish-3
-slice-aggregate-finish-3 c = search needs
+slice-aggregate-finish-2 c = as-long 131072 (c .before .before .before .before .before .before .before .before .before .before .before .before .before .before .before .before .flatten-found .last .1 .1 .1 .1 .1 .1 .1 .1 .0) (c .before .before .before .before .before .before .before .before .before .before .before .before .before .before .before .before .flatten-found .kept .1 .1 .1 .1 .1 .1 .1 .1 .0)
 
 finish-requires : tie.Need-finish-requires
 finish-requires c κs = tt
 
 same-length : tie.Need-same-length
-same-length c = (c .before .before .before .finish .kept .1 .1 .1 .1 .0) ∙ (c .before .before .before .before .before .before .before .before .before .before .before .before .before .before .before .before .before .before .before .before .before .before .before .before .flatten-found .kept .1 .1 .0)
+same-length c = (c .before .before .finish .kept .1 .1 .1 .1 .0) ∙ (c .before .before .before .before .before .before .before .before .before .before .before .before .before .before .before .before .before .before .before .before .flatten-found .kept .1 .1 .0)
 
 same-length-2 : tie.Need-same-length-2
-same-length-2 c = c .before .before .before .before .before .before .before .before .before .before .before .before .before .before .before .before .before .before .before .before .before .before .before .before .flatten-found .kept .1 .1 .1 .0
+same-length-2 c = c .before .before .before .before .before .before .before .before .before .before .before .before .before .before .before .before .before .before .before .before .flatten-found .kept .1 .1 .1 .0
 
 same-length-3 : tie.Need-same-length-3
-same-length-3 c = c .before .before .before .before .before .before .before .before .before .before .before .before .before .before .before .before .before .before .before .before .before .before .before .before .flatten-found .kept .1 .1 .1 .1 .0
+same-length-3 c = c .before .before .before .before .before .before .before .before .before .before .before .before .before .before .before .before .before .before .before .before .flatten-found .kept .1 .1 .1 .1 .0
 
 same-length-4 : tie.Need-same-length-4
-same-length-4 c = c .before .before .before .before .before .before .before .before .before .before .before .before .before .before .before .before .before .before .before .before .before .before .before .before .flatten-found .kept .1 .1 .1 .1 .1 .0
+same-length-4 c = c .before .before .before .before .before .before .before .before .before .before .before .before .before .before .before .before .before .before .before .before .flatten-found .kept .1 .1 .1 .1 .1 .0
 
 same-length-5 : tie.Need-same-length-5
-same-length-5 c = c .before .before .before .before .before .before .before .before .before .before .before .before .before .before .before .before .before .before .before .before .before .before .before .before .flatten-found .kept .1 .1 .1 .1 .1 .1 .1 .1 .1 .0
+same-length-5 c = c .before .before .before .before .before .before .before .before .before .before .before .before .before .before .before .before .before .before .before .before .flatten-found .kept .1 .1 .1 .1 .1 .1 .1 .1 .1 .0
 
 returns : tie.Need-returns
 returns c = tt
@@ -60,7 +56,6 @@ flatten-files-spec =
     flatten-found-requires
     slice-aggregate-finish
     slice-aggregate-finish-2
-    slice-aggregate-finish-3
     finish-requires
     same-length
     same-length-2

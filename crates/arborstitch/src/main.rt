@@ -2,7 +2,6 @@
 // what it answers on descriptor 3, one digit: 0 for a flat text, 1 for a refusal, 2 for bad usage or files that cannot be read or
 // written.
 mod answering;
-mod help;
 
 use answering::list_words;
 use answering::perform;

@@ -1,10 +1,6 @@
 // The technician's command: flattens the files that its arguments name. The wrapper `bin/arborstitch` runs it and exits with
 // what it answers on descriptor 3, one digit: 0 for a flat text, 1 for a refusal, 2 for bad usage or files that cannot be read or
 // written.
-mod answering;
-
-use answering::list_words;
-use answering::perform;
 use answers::DONE;
 use answers::FAILED;
 use command_line::read_words;
@@ -13,6 +9,8 @@ use messages::complain;
 use options::CLASSIFY;
 use options::SHOW_HELP;
 use options::SHOW_VERSION;
+use performing::list_words;
+use performing::perform;
 use plan::CLASH;
 use plan::COMMAND;
 use plan::get;
@@ -46,18 +44,36 @@ fn carry_out(
     rows: &[[u32; 5]],
     plan: &mut [usize],
     store: &mut [u8],
+    table: &mut [[u32; 5]],
+    paths: &mut [[u32; 3]],
+    starts: &mut [[u32; 2]],
+    bytes: &mut [u8],
+) -> u8 {
+    if !check_plan(line, rows, plan) {
+        return FAILED;
+    }
+    if !make_entry(line, rows, plan, store, table, paths) {
+        return FAILED;
+    }
+    let digit = run(line, rows, plan, store, table, paths, starts, bytes);
+    if (digit != DONE) & (get(plan, CLASH) == 0) {
+        delivery::set_all_aside(line, plan);
+    }
+    digit
+}
+
+// Carries out a plan with tables of its own.
+fn answer_plan(
+    line: &[u8],
+    rows: &[[u32; 5]],
+    plan: &mut [usize],
+    store: &mut [u8],
     bytes: &mut [u8],
 ) -> u8 {
     let mut table = [[0u32; 5]; 64];
     let mut paths = [[0u32; 3]; 64];
     let mut starts = [[0u32; 2]; 257];
-    if !check_plan(line, rows, plan) {
-        return FAILED;
-    }
-    if !make_entry(line, rows, plan, store, &mut table, &mut paths) {
-        return FAILED;
-    }
-    let digit = run(
+    carry_out(
         line,
         rows,
         plan,
@@ -66,11 +82,7 @@ fn carry_out(
         &mut paths,
         &mut starts,
         bytes,
-    );
-    if (digit != DONE) & (get(plan, CLASH) == 0) {
-        delivery::set_all_aside(line, plan);
-    }
-    digit
+    )
 }
 
 // Reads the command line and does what it asks.
@@ -101,7 +113,7 @@ fn answer(
         );
         return FAILED;
     }
-    carry_out(line, rows, plan, store, bytes)
+    answer_plan(line, rows, plan, store, bytes)
 }
 
 // The store has one byte more than is taken, so that more shows.

@@ -1,12 +1,12 @@
--- `arborstitch::answering::flatten_files` is safe: the text and the map are as long as they say, before and after.
+-- `performing::flatten_files` is safe: the text and the map are as long as they say, before and after.
 -- Assumes nothing.
 use mathlib.Core.Path.{_≡_, sym, _∙_}
 use mathlib.Core.List.{List}
 use Prim.Native.Nat.{ℕ}
 use lib.ListN.{length, replicate, length-replicate}
 use Rattle.classify.proofs.Filled.{filled}
-use Rattle.arborstitch.proofs.answering.flatten_files.Statement.{statement}
-use Rattle.arborstitch.proofs.answering.flatten_files.Tie as tie
+use Rattle.performing.proofs.flatten_files.Statement.{statement}
+use Rattle.performing.proofs.flatten_files.Tie as tie
 
 as-long : (n : ℕ) (xs : List ℕ) → length xs ≡ length (replicate {A = ℕ} n 0) → n ≡ length xs
 as-long n xs e = sym (e ∙ length-replicate {A = ℕ} n 0)

@@ -59,8 +59,20 @@ fn flatten_files(
     )
 }
 
-// Flattens, and answers what is asked. `flatten_files` and `answer_macros` have two calls that differ, so each keeps a frame of
-// its own, and the 4 MiB of the one are free before the other takes 5.
+// Pass or look up, where the flattening was not refused. `answer_macros` has two calls that differ, so it keeps a frame of its own.
+fn answer_left(left: Left, command: usize, name: &[u8], bytes: &[u8]) -> u8 {
+    if left.digit != DONE {
+        return left.digit;
+    }
+    let records = left.records;
+    if command == PASS {
+        return answer_macros(PASS, b"", bytes, records);
+    }
+    answer_macros(command, name, bytes, records)
+}
+
+// Flattens, and answers what is asked. `flatten_files` has two calls that differ too, so that its 4 MiB are free before pass takes
+// 5.
 pub fn perform(
     line: &[u8],
     rows: &[[u32; 5]],
@@ -77,14 +89,7 @@ pub fn perform(
         return flat.digit;
     }
     let left = flatten_files(false, line, rows, plan, store, table, paths, starts, bytes);
-    if left.digit != DONE {
-        return left.digit;
-    }
-    let records = left.records;
-    if command == PASS {
-        return answer_macros(PASS, b"", bytes, records);
-    }
-    answer_macros(command, range_at(line, plan, NAME), bytes, records)
+    answer_left(left, command, range_at(line, plan, NAME), bytes)
 }
 
 // The words of the one file, whatever its size.

@@ -6,24 +6,13 @@ use borrow.Author.Needs.{needs}
 use Rattle.afresh.proofs.add_byte.Statement.{statement}
 use Rattle.afresh.proofs.add_byte.Tie as tie
 
-at-state-requires : tie.Need-at-state-requires
-at-state-requires c κs = search needs
-
 returns : tie.Need-returns
 returns c w h = rw (longer-full (c .before .before .before .before .args .r) (c .before .before .before .before .args .name .now) w (sound _ _ _ (c .before .before .before .before .pre .0) (c .before .before .before .before .pre .1) h) (c .before .before .before .before .args .most) (c .before .before .before .before .args .state) (c .before .before .before .before .args .b) (c .before .if1 .taken)) (fed-at (sound (c .before .before .before .before .args .r) (c .before .before .before .before .args .name .now) w (c .before .before .before .before .pre .0) (c .before .before .before .before .pre .1) h) (c .at-state .ensures))
-
-slice-write-name : tie.Need-slice-write-name
-slice-write-name c = search needs
-
-add-t9 : tie.Need-add-t9
-add-t9 c = search needs
-
-same-length : tie.Need-same-length
-same-length c = search needs
 
 returns-2 : tie.Need-returns-2
 returns-2 c w h = fed-longer _ _ _ (sound (c .before .before .before .args .r) (c .before .before .before .args .name .now) w (c .before .before .before .pre .0) (c .before .before .before .pre .1) h) _ _ _ (omega arith) (c .before .before .before .pre .2)
 
 pub add-byte-spec : {M : Type 1} → statement M
 add-byte-spec =
-    tie.close (tie.spec at-state-requires returns slice-write-name add-t9 same-length returns-2)
+    tie.close (tie.spec
+    (λ c κs. search needs) returns (λ c. search needs) (λ c. search needs) (λ c. search needs) returns-2)

@@ -6,9 +6,6 @@ use borrow.Author.Needs.{needs}
 use Rattle.afresh.proofs.end_verdict.Statement.{statement}
 use Rattle.afresh.proofs.end_verdict.Tie as tie
 
-leaves-bad-requires : tie.Need-leaves-bad-requires
-leaves-bad-requires c κs = search needs
-
 returns : tie.Need-returns
 unfolding ended
 returns c w = rw (stack-open w (c .before .before .before .before .before .args .r .depth), ← c .before .before .leaves-bad .ensures w, c .if1 .taken)
@@ -18,4 +15,5 @@ unfolding ended
 returns-2 c w = rw (stack-open w (c .before .before .before .before .before .args .r .depth), ← c .before .before .leaves-bad .ensures w, c .if1 .left)
 
 pub end-verdict-spec : {M : Type 1} → statement M
-end-verdict-spec = tie.close (tie.spec leaves-bad-requires returns returns-2)
+end-verdict-spec = tie.close (tie.spec
+    (λ c κs. search needs) returns returns-2)

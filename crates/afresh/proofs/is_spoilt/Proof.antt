@@ -11,15 +11,10 @@ returns c w = spoilt-plain (c .before .before .before .args .r) (c .before .befo
 returns-2 : tie.Need-returns-2
 returns-2 c w = spoilt-empty (c .before .before .before .before .before .args .r) (c .before .before .before .before .before .args .name .now) w (c .before .before .if1 .left) (c .if2 .taken)
 
-part-of-requires : tie.Need-part-of-requires
-part-of-requires c κs = search needs
-
-directive-of-requires : tie.Need-directive-of-requires
-directive-of-requires c κs = search needs
-
 returns-3 : tie.Need-returns-3
 returns-3 c w = spoilt-named (c .before .before .before .before .before .before .before .args .r) (c .before .before .before .before .before .before .before .args .name .now) w (c .before .before .before .before .if1 .left) (c .before .before .if2 .left) (c .before .before .before .before .before .before .before .pre) _ (c .before .part-of .ensures) _ (c .directive-of .ensures)
 
 pub is-spoilt-spec : {M : Type 1} → statement M
 is-spoilt-spec =
-    tie.close (tie.spec returns returns-2 part-of-requires directive-of-requires returns-3)
+    tie.close (tie.spec
+    returns returns-2 (λ c κs. search needs) (λ c κs. search needs) returns-3)

@@ -7,20 +7,11 @@ use borrow.Author.Needs.{needs}
 use Rattle.afresh.proofs.leaves_bad.Statement.{statement}
 use Rattle.afresh.proofs.leaves_bad.Tie as tie
 
-is-spoilt-requires : tie.Need-is-spoilt-requires
-is-spoilt-requires c κs = search needs
-
 returns : tie.Need-returns
 returns c w = rw (leaves-name (stateOf (c .before .before .before .before .before .before .args .r) (c .before .before .before .before .before .before .args .name .now) w) (c .before .if1 .taken)) (c .is-spoilt .ensures w)
 
-is-spoilt-requires-2 : tie.Need-is-spoilt-requires-2
-is-spoilt-requires-2 c κs = search needs
-
 returns-2 : tie.Need-returns-2
 returns-2 c w = rw (leaves-doubt (stateOf (c .before .before .before .before .before .before .before .before .before .before .args .r) (c .before .before .before .before .before .before .before .before .before .before .args .name .now) w) (c .before .before .before .before .before .if1 .left) (c .before .before .if2 .taken), name-length (c .before .before .before .before .before .before .before .before .before .before .args .r) (c .before .before .before .before .before .before .before .before .before .before .args .name .now) w (c .before .before .before .before .before .before .before .before .before .before .pre), c .is-spoilt2 .ensures w)
-
-is-string-requires : tie.Need-is-string-requires
-is-string-requires c κs = search needs
 
 returns-3 : tie.Need-returns-3
 returns-3 c w = rw (leaves-other (stateOf (c .before .before .before .before .before .before .before .before .before .before .before .before .args .r) (c .before .before .before .before .before .before .before .before .before .before .before .before .args .name .now) w) (c .before .before .before .before .before .before .before .if1 .left) (c .before .before .before .before .if2 .left), c .before .before .before .is-string .ensures (c .before .before .before .before .before .before .before .before .before .before .before .before .args .name .now) w)
@@ -29,9 +20,4 @@ pub leaves-bad-spec : {M : Type 1} → statement M
 leaves-bad-spec =
     tie.close
     (tie.spec
-    is-spoilt-requires
-    returns
-    is-spoilt-requires-2
-    returns-2
-    is-string-requires
-    returns-3)
+    (λ c κs. search needs) returns (λ c κs. search needs) returns-2 (λ c κs. search needs) returns-3)

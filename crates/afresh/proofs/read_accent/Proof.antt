@@ -7,42 +7,21 @@ use borrow.Author.Needs.{needs}
 use Rattle.afresh.proofs.read_accent.Statement.{statement}
 use Rattle.afresh.proofs.read_accent.Tie as tie
 
-is-start-requires : tie.Need-is-start-requires
-is-start-requires c κs = search needs
-
-start-name-requires : tie.Need-start-name-requires
-start-name-requires c κs = search needs
-
-same-length : tie.Need-same-length
-same-length c = search needs
-
 returns : tie.Need-returns
 unfolding inAccent
 returns c w h = simp (← c .before .before .before .before .before .is-start .ensures, c .before .before .before .before .if1 .taken) (c .before .before .start-name .ensures w h)
-
-turned-requires : tie.Need-turned-requires
-turned-requires c κs = search needs
 
 returns-2 : tie.Need-returns-2
 unfolding inAccent
 returns-2 c w h = simp (← c .before .before .before .is-start .ensures, c .before .before .if1 .left, eq-eqb _ _ (c .before .if2 .taken)) (fed-turned (sound (c .before .before .before .before .before .args .r) (c .before .before .before .before .before .args .name .now) w (c .before .before .before .before .before .pre .0) (c .before .before .before .before .before .pre .1) h) (c .turned .ensures))
 
-at-state-requires : tie.Need-at-state-requires
-at-state-requires c κs = search needs
-
 returns-3 : tie.Need-returns-3
 unfolding inAccent
 returns-3 c w h = simp (← c .before .before .before .before .is-start .ensures, c .before .before .before .if1 .left, ne-eqb _ _ (c .before .before .if2 .left), eq-eqb _ _ (c .before .if3 .taken)) (fed-at (sound (c .before .before .before .before .before .before .args .r) (c .before .before .before .before .before .before .args .name .now) w (c .before .before .before .before .before .before .pre .0) (c .before .before .before .before .before .before .pre .1) h) (c .at-state .ensures))
 
-at-state-requires-2 : tie.Need-at-state-requires-2
-at-state-requires-2 c κs = search needs
-
 returns-4 : tie.Need-returns-4
 unfolding inAccent
 returns-4 c w h = simp (← c .before .before .before .before .before .is-start .ensures, c .before .before .before .before .if1 .left, ne-eqb _ _ (c .before .before .before .if2 .left), ne-eqb _ _ (c .before .before .if3 .left), eq-eqb _ _ (c .before .if4 .taken)) (fed-at (sound (c .before .before .before .before .before .before .before .args .r) (c .before .before .before .before .before .before .before .args .name .now) w (c .before .before .before .before .before .before .before .pre .0) (c .before .before .before .before .before .before .before .pre .1) h) (c .at-state2 .ensures))
-
-at-state-requires-3 : tie.Need-at-state-requires-3
-at-state-requires-3 c κs = search needs
 
 returns-5 : tie.Need-returns-5
 unfolding inAccent
@@ -52,15 +31,5 @@ pub read-accent-spec : {M : Type 1} → statement M
 read-accent-spec =
     tie.close
     (tie.spec
-    is-start-requires
-    start-name-requires
-    same-length
-    returns
-    turned-requires
-    returns-2
-    at-state-requires
-    returns-3
-    at-state-requires-2
-    returns-4
-    at-state-requires-3
-    returns-5)
+    (λ c κs. search needs) (λ c κs. search needs) (λ c. search needs) returns (λ c κs. search needs) returns-2
+    (λ c κs. search needs) returns-3 (λ c κs. search needs) returns-4 (λ c κs. search needs) returns-5)

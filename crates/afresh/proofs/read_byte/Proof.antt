@@ -6,41 +6,17 @@ use borrow.Author.Needs.{needs}
 use Rattle.afresh.proofs.read_byte.Statement.{statement}
 use Rattle.afresh.proofs.read_byte.Tie as tie
 
-is-legal-requires : tie.Need-is-legal-requires
-is-legal-requires c κs = search needs
-
-at-state-requires : tie.Need-at-state-requires
-at-state-requires c κs = search needs
-
 returns : tie.Need-returns
 unfolding next
 returns c = simp (← c .before .before .is-legal .ensures, c .before .if1 .taken) (fed-at (c .before .before .before .before .before .pre) (c .at-state .ensures))
-
-is-string-requires : tie.Need-is-string-requires
-is-string-requires c κs = search needs
-
-read-string-requires : tie.Need-read-string-requires
-read-string-requires c κs = search needs
 
 returns-2 : tie.Need-returns-2
 unfolding next
 returns-2 c = simp (← c .before .before .before .before .is-legal .ensures, c .before .before .before .if1 .left, ← c .before .before .is-string .ensures (c .before .before .before .before .before .before .before .args .name .now) (c .before .before .before .before .before .before .before .args .stack .now), c .before .if2 .taken) (c .read-string .ensures (c .before .before .before .before .before .before .before .args .name .now) (c .before .before .before .before .before .before .before .args .stack .now) (c .before .before .before .before .before .before .before .pre))
 
-at-state-requires-2 : tie.Need-at-state-requires-2
-at-state-requires-2 c κs = search needs
-
 returns-3 : tie.Need-returns-3
 unfolding next
 returns-3 c = simp (← c .before .before .before .before .before .before .is-legal .ensures, c .before .before .before .before .before .if1 .left, ← c .before .before .before .before .is-string .ensures (c .before .before .before .before .before .before .before .before .before .args .name .now) (c .before .before .before .before .before .before .before .before .before .args .stack .now), c .before .before .before .if2 .left, c .before .if3 .taken) (fed-at (c .before .before .before .before .before .before .before .before .before .pre) (c .at-state2 .ensures))
-
-read-outside-requires : tie.Need-read-outside-requires
-read-outside-requires c κs = search needs
-
-same-length : tie.Need-same-length
-same-length c = search needs
-
-same-length-2 : tie.Need-same-length-2
-same-length-2 c = search needs
 
 returns-4 : tie.Need-returns-4
 unfolding next
@@ -50,15 +26,5 @@ pub read-byte-spec : {M : Type 1} → statement M
 read-byte-spec =
     tie.close
     (tie.spec
-    is-legal-requires
-    at-state-requires
-    returns
-    is-string-requires
-    read-string-requires
-    returns-2
-    at-state-requires-2
-    returns-3
-    read-outside-requires
-    same-length
-    same-length-2
-    returns-4)
+    (λ c κs. search needs) (λ c κs. search needs) returns (λ c κs. search needs) (λ c κs. search needs) returns-2
+    (λ c κs. search needs) returns-3 (λ c κs. search needs) (λ c. search needs) (λ c. search needs) returns-4)

@@ -9,28 +9,13 @@ use borrow.Author.Needs.{needs}
 use Rattle.afresh.proofs.read_doubt.Statement.{statement}
 use Rattle.afresh.proofs.read_doubt.Tie as tie
 
-at-state-requires : tie.Need-at-state-requires
-at-state-requires c κs = search needs
-
 returns : tie.Need-returns
 unfolding inDoubt
 returns c = rw (name-length (c .before .before .before .before .before .args .r) (c .before .before .before .before .before .args .name .now) (c .before .before .before .before .before .args .stack .now) (omega arith), lt-ltb _ _ (c .before .if1 .taken)) (fed-at (c .before .before .before .before .before .pre) (c .at-state .ensures))
 
-at-line-requires : tie.Need-at-line-requires
-at-line-requires c κs = search needs
-
 returns-2 : tie.Need-returns-2
 unfolding inDoubt
 returns-2 c = rw (name-length (c .before .before .before .before .before .before .args .r) (c .before .before .before .before .before .before .args .name .now) (c .before .before .before .before .before .before .args .stack .now) (omega arith), le-ltb _ _ (c .before .before .if1 .left), eq-eqb _ _ (c .before .if2 .taken)) (fed-line (c .before .before .before .before .before .before .pre) (c .at-line .ensures))
-
-read-solid-requires : tie.Need-read-solid-requires
-read-solid-requires c κs = search needs
-
-same-length : tie.Need-same-length
-same-length c = search needs
-
-same-length-2 : tie.Need-same-length-2
-same-length-2 c = search needs
 
 returns-3 : tie.Need-returns-3
 unfolding inDoubt
@@ -40,11 +25,5 @@ pub read-doubt-spec : {M : Type 1} → statement M
 read-doubt-spec =
     tie.close
     (tie.spec
-    at-state-requires
-    returns
-    at-line-requires
-    returns-2
-    read-solid-requires
-    same-length
-    same-length-2
-    returns-3)
+    (λ c κs. search needs) returns (λ c κs. search needs) returns-2 (λ c κs. search needs) (λ c. search needs)
+    (λ c. search needs) returns-3)

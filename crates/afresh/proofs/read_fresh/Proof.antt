@@ -7,79 +7,37 @@ use borrow.Author.Needs.{needs}
 use Rattle.afresh.proofs.read_fresh.Statement.{statement}
 use Rattle.afresh.proofs.read_fresh.Tie as tie
 
-is-white-requires : tie.Need-is-white-requires
-is-white-requires c κs = search needs
-
-at-state-requires : tie.Need-at-state-requires
-at-state-requires c κs = search needs
-
 returns : tie.Need-returns
 unfolding fresh
 returns c = simp (← c .before .before .is-white .ensures, c .before .if1 .taken) (fed-at (c .before .before .before .before .before .pre) (c .at-state .ensures))
-
-is-start-requires : tie.Need-is-start-requires
-is-start-requires c κs = search needs
-
-start-name-requires : tie.Need-start-name-requires
-start-name-requires c κs = search needs
-
-same-length : tie.Need-same-length
-same-length c = search needs
 
 returns-2 : tie.Need-returns-2
 unfolding fresh
 returns-2 c = simp (← c .before .before .before .before .before .before .before .is-white .ensures, c .before .before .before .before .before .before .if1 .left, ← c .before .before .before .before .before .is-start .ensures, c .before .before .before .before .if2 .taken) (c .before .before .start-name .ensures (c .before .before .before .before .before .before .before .before .before .before .args .stack .now) (c .before .before .before .before .before .before .before .before .before .before .pre .depth))
 
-is-digit-requires : tie.Need-is-digit-requires
-is-digit-requires c κs = search needs
-
-at-state-requires-2 : tie.Need-at-state-requires-2
-at-state-requires-2 c κs = search needs
-
 returns-3 : tie.Need-returns-3
 unfolding fresh
 returns-3 c = simp (← c .before .before .before .before .before .before .is-white .ensures, c .before .before .before .before .before .if1 .left, ← c .before .before .before .before .is-start .ensures, c .before .before .before .if2 .left, ← c .before .before .is-digit .ensures, c .before .if3 .taken) (fed-at (c .before .before .before .before .before .before .before .before .before .pre) (c .at-state2 .ensures))
-
-at-state-requires-3 : tie.Need-at-state-requires-3
-at-state-requires-3 c κs = search needs
 
 returns-4 : tie.Need-returns-4
 unfolding fresh
 returns-4 c = simp (← c .before .before .before .before .before .before .before .before .is-white .ensures, c .before .before .before .before .before .before .before .if1 .left, ← c .before .before .before .before .before .before .is-start .ensures, c .before .before .before .before .before .if2 .left, ← c .before .before .before .before .is-digit .ensures, c .before .before .before .if3 .left, eq-eqb _ _ (c .before .before .if4 .taken)) (fed-marked (c .before .before .before .before .before .before .before .before .before .before .before .pre) (c .before .if5 .taken) (c .at-state3 .ensures))
 
-at-state-requires-4 : tie.Need-at-state-requires-4
-at-state-requires-4 c κs = search needs
-
 returns-5 : tie.Need-returns-5
 unfolding fresh
 returns-5 c = simp (← c .before .before .before .before .before .before .before .before .is-white .ensures, c .before .before .before .before .before .before .before .if1 .left, ← c .before .before .before .before .before .before .is-start .ensures, c .before .before .before .before .before .if2 .left, ← c .before .before .before .before .is-digit .ensures, c .before .before .before .if3 .left, eq-eqb _ _ (c .before .before .if4 .taken)) (fed-plain (c .before .before .before .before .before .before .before .before .before .before .before .pre) (c .before .if5 .left) (c .at-state4 .ensures))
-
-at-state-requires-5 : tie.Need-at-state-requires-5
-at-state-requires-5 c κs = search needs
 
 returns-6 : tie.Need-returns-6
 unfolding fresh
 returns-6 c = simp (← c .before .before .before .before .before .before .before .before .is-white .ensures, c .before .before .before .before .before .before .before .if1 .left, ← c .before .before .before .before .before .before .is-start .ensures, c .before .before .before .before .before .if2 .left, ← c .before .before .before .before .is-digit .ensures, c .before .before .before .if3 .left, ne-eqb _ _ (c .before .before .if4 .left), eq-eqb _ _ (c .before .if6 .taken)) (fed-at (c .before .before .before .before .before .before .before .before .before .before .before .pre) (c .at-state5 .ensures))
 
-at-state-requires-6 : tie.Need-at-state-requires-6
-at-state-requires-6 c κs = search needs
-
 returns-7 : tie.Need-returns-7
 unfolding fresh
 returns-7 c = simp (← c .before .before .before .before .before .before .before .before .before .is-white .ensures, c .before .before .before .before .before .before .before .before .if1 .left, ← c .before .before .before .before .before .before .before .is-start .ensures, c .before .before .before .before .before .before .if2 .left, ← c .before .before .before .before .before .is-digit .ensures, c .before .before .before .before .if3 .left, ne-eqb _ _ (c .before .before .before .if4 .left), ne-eqb _ _ (c .before .before .if6 .left), eq-eqb _ _ (c .before .if7 .taken)) (fed-at (c .before .before .before .before .before .before .before .before .before .before .before .before .pre) (c .at-state6 .ensures))
 
-at-state-requires-7 : tie.Need-at-state-requires-7
-at-state-requires-7 c κs = search needs
-
 returns-8 : tie.Need-returns-8
 unfolding fresh
 returns-8 c = simp (← c .before .before .before .before .before .before .before .before .before .before .is-white .ensures, c .before .before .before .before .before .before .before .before .before .if1 .left, ← c .before .before .before .before .before .before .before .before .is-start .ensures, c .before .before .before .before .before .before .before .if2 .left, ← c .before .before .before .before .before .before .is-digit .ensures, c .before .before .before .before .before .if3 .left, ne-eqb _ _ (c .before .before .before .before .if4 .left), ne-eqb _ _ (c .before .before .before .if6 .left), ne-eqb _ _ (c .before .before .if7 .left), eq-eqb _ _ (c .before .if8 .taken)) (fed-at (c .before .before .before .before .before .before .before .before .before .before .before .before .before .pre) (c .at-state7 .ensures))
-
-read-sign-requires : tie.Need-read-sign-requires
-read-sign-requires c κs = search needs
-
-same-length-2 : tie.Need-same-length-2
-same-length-2 c = search needs
 
 returns-9 : tie.Need-returns-9
 unfolding fresh
@@ -89,26 +47,7 @@ pub read-fresh-spec : {M : Type 1} → statement M
 read-fresh-spec =
     tie.close
     (tie.spec
-    is-white-requires
-    at-state-requires
-    returns
-    is-start-requires
-    start-name-requires
-    same-length
-    returns-2
-    is-digit-requires
-    at-state-requires-2
-    returns-3
-    at-state-requires-3
-    returns-4
-    at-state-requires-4
-    returns-5
-    at-state-requires-5
-    returns-6
-    at-state-requires-6
-    returns-7
-    at-state-requires-7
-    returns-8
-    read-sign-requires
-    same-length-2
-    returns-9)
+    (λ c κs. search needs) (λ c κs. search needs) returns (λ c κs. search needs) (λ c κs. search needs)
+    (λ c. search needs) returns-2 (λ c κs. search needs) (λ c κs. search needs) returns-3 (λ c κs. search needs)
+    returns-4 (λ c κs. search needs) returns-5 (λ c κs. search needs) returns-6 (λ c κs. search needs) returns-7
+    (λ c κs. search needs) returns-8 (λ c κs. search needs) (λ c. search needs) returns-9)

@@ -11,30 +11,15 @@ use borrow.Author.Needs.{needs}
 use Rattle.afresh.proofs.read_slanted.Statement.{statement}
 use Rattle.afresh.proofs.read_slanted.Tie as tie
 
-at-state-requires : tie.Need-at-state-requires
-at-state-requires c κs = search needs
-
 returns : tie.Need-returns
 unfolding inSlanted
 returns c = rw (eq-eqb _ _ (c .before .if1 .taken)) (fed-at (c .before .before .before .before .pre) (c .at-state .ensures))
 
-at-state-requires-2 : tie.Need-at-state-requires-2
-at-state-requires-2 c κs = search needs
-
 returns-2 : tie.Need-returns-2
 returns-2 c = rw (slanted-bad (stateOf (c .before .before .before .before .before .args .r) (c .before .before .before .before .before .args .name .now) (c .before .before .before .before .before .args .stack .now)) (c .before .before .before .before .before .args .b) (c .before .before .if1 .left) (c .before .if2 .taken)) (fed-at (c .before .before .before .before .before .pre) (c .at-state2 .ensures))
 
-slanted-requires : tie.Need-slanted-requires
-slanted-requires c κs = search needs
-
 read-solid-requires : tie.Need-read-solid-requires
 read-solid-requires c κs = handed-sound (c .before .before .before .before .before .before .before .pre) (c .before .before .slanted .ensures) (omega arith)
-
-same-length : tie.Need-same-length
-same-length c = search needs
-
-same-length-2 : tie.Need-same-length-2
-same-length-2 c = search needs
 
 returns-3 : tie.Need-returns-3
 returns-3 c = rw (slanted-solid (stateOf (c .before .before .before .before .before .before .before .before .before .before .before .before .args .r) (c .before .before .before .before .before .before .before .before .before .before .before .before .args .name .now) (c .before .before .before .before .before .before .before .before .before .before .before .before .args .stack .now)) (c .before .before .before .before .before .before .before .before .before .before .before .before .args .b) (c .before .before .before .before .before .before .before .before .before .if1 .left) (c .before .before .before .before .before .before .before .before .if2 .left)) (fed-slanted (c .before .before .before .before .read-solid .result) (c .before .before .before .before .before .before .before .before .before .before .before .before .args .r) (c .before .before .before .before .before .before .before .before .before .before .before .before .args .b) (c .before .before .before .before .before .before .before .before .before .before .before .before .args .name .now) (c .before .before .before .before .before .before .before .before .before .before .before .before .args .stack .now) (c .before .before .before .before .read-solid .last .1 .1 .0) (c .before .before .before .before .read-solid .last .1 .1 .1 .0) (c .before .before .before .before .before .before .before .slanted .ensures) (c .before .before .before .before .read-solid .ensures))
@@ -43,12 +28,5 @@ pub read-slanted-spec : {M : Type 1} → statement M
 read-slanted-spec =
     tie.close
     (tie.spec
-    at-state-requires
-    returns
-    at-state-requires-2
-    returns-2
-    slanted-requires
-    read-solid-requires
-    same-length
-    same-length-2
-    returns-3)
+    (λ c κs. search needs) returns (λ c κs. search needs) returns-2 (λ c κs. search needs) read-solid-requires
+    (λ c. search needs) (λ c. search needs) returns-3)

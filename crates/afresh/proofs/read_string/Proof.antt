@@ -7,43 +7,25 @@ use borrow.Author.Needs.{needs}
 use Rattle.afresh.proofs.read_string.Statement.{statement}
 use Rattle.afresh.proofs.read_string.Tie as tie
 
-at-state-requires : tie.Need-at-state-requires
-at-state-requires c κs = search needs
-
 returns : tie.Need-returns
 unfolding inString
 returns c n w s = simp (eq-eqb _ _ (c .before .if1 .taken)) (fed-at s (c .at-state .ensures))
-
-at-state-requires-2 : tie.Need-at-state-requires-2
-at-state-requires-2 c κs = search needs
 
 returns-2 : tie.Need-returns-2
 unfolding inString
 returns-2 c n w s = simp (ne-eqb _ _ (c .before .before .before .if1 .left), eq-eqb _ _ (c .before .if2 .taken)) (fed-at s (c .at-state2 .ensures))
 
-at-state-requires-3 : tie.Need-at-state-requires-3
-at-state-requires-3 c κs = search needs
-
 returns-3 : tie.Need-returns-3
 unfolding inString
 returns-3 c n w s = simp (ne-eqb _ _ (c .before .before .before .before .if1 .left), ne-eqb _ _ (c .before .before .if2 .left), eq-eqb _ _ (c .before .if3 .taken)) (fed-at s (c .at-state3 .ensures))
-
-at-state-requires-4 : tie.Need-at-state-requires-4
-at-state-requires-4 c κs = search needs
 
 returns-4 : tie.Need-returns-4
 unfolding inString
 returns-4 c n w s = simp (ne-eqb _ _ (c .before .before .before .before .before .before .before .if1 .left), ne-eqb _ _ (c .before .before .before .before .before .if2 .left), ne-eqb _ _ (c .before .before .before .before .if3 .left), eq-eqb _ _ (c .before .before .before .if4 .taken), eq-eqb _ _ (c .before .if5 .taken)) (fed-at s (c .at-state4 .ensures))
 
-at-state-requires-5 : tie.Need-at-state-requires-5
-at-state-requires-5 c κs = search needs
-
 returns-5 : tie.Need-returns-5
 unfolding inString
 returns-5 c n w s = simp (ne-eqb _ _ (c .before .before .before .before .before .before .before .if1 .left), ne-eqb _ _ (c .before .before .before .before .before .if2 .left), ne-eqb _ _ (c .before .before .before .before .if3 .left), eq-eqb _ _ (c .before .before .before .if4 .taken), ne-eqb _ _ (c .before .if5 .left)) (fed-at s (c .at-state5 .ensures))
-
-at-state-requires-6 : tie.Need-at-state-requires-6
-at-state-requires-6 c κs = search needs
 
 returns-6 : tie.Need-returns-6
 unfolding inString
@@ -53,15 +35,5 @@ pub read-string-spec : {M : Type 1} → statement M
 read-string-spec =
     tie.close
     (tie.spec
-    at-state-requires
-    returns
-    at-state-requires-2
-    returns-2
-    at-state-requires-3
-    returns-3
-    at-state-requires-4
-    returns-4
-    at-state-requires-5
-    returns-5
-    at-state-requires-6
-    returns-6)
+    (λ c κs. search needs) returns (λ c κs. search needs) returns-2 (λ c κs. search needs) returns-3
+    (λ c κs. search needs) returns-4 (λ c κs. search needs) returns-5 (λ c κs. search needs) returns-6)

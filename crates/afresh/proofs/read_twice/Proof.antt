@@ -13,33 +13,18 @@ use borrow.Author.Needs.{needs}
 use Rattle.afresh.proofs.read_twice.Statement.{statement}
 use Rattle.afresh.proofs.read_twice.Tie as tie
 
-at-state-requires : tie.Need-at-state-requires
-at-state-requires c κs = search needs
-
 returns : tie.Need-returns
 unfolding inTwice
 returns c = rw (eq-eqb _ _ (c .before .if1 .taken)) (fed-at (c .before .before .before .before .pre) (c .at-state .ensures))
 
-at-state-requires-2 : tie.Need-at-state-requires-2
-at-state-requires-2 c κs = search needs
-
 returns-2 : tie.Need-returns-2
 returns-2 c = rw (twice-bad (stateOf (c .before .before .before .before .before .args .r) (c .before .before .before .before .before .args .name .now) (c .before .before .before .before .before .args .stack .now)) (c .before .before .before .before .before .args .b) (c .before .before .if1 .left) (c .before .if2 .taken)) (fed-at (c .before .before .before .before .before .pre) (c .at-state2 .ensures))
-
-slice-write-name : tie.Need-slice-write-name
-slice-write-name c = search needs
-
-slanted-requires : tie.Need-slanted-requires
-slanted-requires c κs = search needs
 
 read-solid-requires : tie.Need-read-solid-requires
 read-solid-requires c κs = handed-sound (accent-sound (c .before .before .before .before .before .before .before .pre)) (c .before .before .slanted .ensures) (omega arith)
 
 same-length : tie.Need-same-length
 same-length c = c .before .before .before .before .read-solid .kept .1 .1 .0 ∙ length-set (c .before .before .before .before .before .before .before .before .before .before .before .before .args .name .now) 0 96
-
-same-length-2 : tie.Need-same-length-2
-same-length-2 c = search needs
 
 returns-3 : tie.Need-returns-3
 returns-3 c = rw (twice-solid (stateOf (c .before .before .before .before .before .before .before .before .before .before .before .before .args .r) (c .before .before .before .before .before .before .before .before .before .before .before .before .args .name .now) (c .before .before .before .before .before .before .before .before .before .before .before .before .args .stack .now)) (c .before .before .before .before .before .before .before .before .before .before .before .before .args .b) (c .before .before .before .before .before .before .before .before .before .if1 .left) (c .before .before .before .before .before .before .before .before .if2 .left)) (fed-twice (c .before .before .before .before .read-solid .result) (c .before .before .before .before .before .before .before .before .before .before .before .before .args .r) (c .before .before .before .before .before .before .before .before .before .before .before .before .args .b) (c .before .before .before .before .before .before .before .before .before .before .before .before .args .name .now) (c .before .before .before .before .before .before .before .before .before .before .before .before .args .stack .now) (c .before .before .before .before .read-solid .last .1 .1 .0) (c .before .before .before .before .read-solid .last .1 .1 .1 .0) (c .before .before .before .before .before .before .before .before .before .before .before .before .pre .long) (c .before .before .before .before .before .before .before .slanted .ensures) (c .before .before .before .before .read-solid .ensures))
@@ -48,13 +33,5 @@ pub read-twice-spec : {M : Type 1} → statement M
 read-twice-spec =
     tie.close
     (tie.spec
-    at-state-requires
-    returns
-    at-state-requires-2
-    returns-2
-    slice-write-name
-    slanted-requires
-    read-solid-requires
-    same-length
-    same-length-2
-    returns-3)
+    (λ c κs. search needs) returns (λ c κs. search needs) returns-2 (λ c. search needs) (λ c κs. search needs)
+    read-solid-requires same-length (λ c. search needs) returns-3)

@@ -5,14 +5,9 @@ use borrow.Author.Needs.{needs}
 use Rattle.afresh.proofs.start_name.Statement.{statement}
 use Rattle.afresh.proofs.start_name.Tie as tie
 
-slice-write-name : tie.Need-slice-write-name
-slice-write-name c = search needs
-
-same-length : tie.Need-same-length
-same-length c = search needs
-
 returns : tie.Need-returns
 returns c w h = fed-start _ _ _ (sound (c .args .r) (c .args .name .now) w (c .pre .0) (c .pre .1) h) _ _ _
 
 pub start-name-spec : {M : Type 1} → statement M
-start-name-spec = tie.close (tie.spec slice-write-name same-length returns)
+start-name-spec = tie.close (tie.spec
+    (λ c. search needs) (λ c. search needs) returns)

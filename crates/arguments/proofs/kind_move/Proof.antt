@@ -6,20 +6,11 @@ use borrow.Author.Needs.{needs}
 use Rattle.arguments.proofs.kind_move.Statement.{statement}
 use Rattle.arguments.proofs.kind_move.Tie as tie
 
-byte-move-requires : tie.Need-byte-move-requires
-byte-move-requires c κs = search needs
-
-same-length : tie.Need-same-length
-same-length c = search needs
-
 returns : tie.Need-returns
 returns c = kind-byte (c .before .before .before .before .before .before .before .args .kind) (c .before .before .before .before .before .before .before .args .b) (c .before .before .before .before .before .before .before .args .name .now) (c .before .before .before .before .before .before .before .args .stack .now) (c .before .before .byte-move .last .1 .0) (c .before .before .before .before .before .before .before .args .depth) (c .before .before .byte-move .result) (c .before .before .before .before .if1 .taken) (c .before .before .byte-move .ensures)
 
 returns-2 : tie.Need-returns-2
 returns-2 c = kind-quote _ _ _ _ (c .if2 .taken)
-
-directive-of-requires : tie.Need-directive-of-requires
-directive-of-requires c κs = search needs
 
 returns-3 : tie.Need-returns-3
 returns-3 c = kind-barred _ _ _ _ _ (c .before .before .if3 .taken) (c .before .directive-of .ensures) (c .if4 .taken)
@@ -34,11 +25,5 @@ pub kind-move-spec : {M : Type 1} → statement M
 kind-move-spec =
     tie.close
     (tie.spec
-    byte-move-requires
-    same-length
-    returns
-    returns-2
-    directive-of-requires
-    returns-3
-    returns-4
+    (λ c κs. search needs) (λ c. search needs) returns returns-2 (λ c κs. search needs) returns-3 returns-4
     returns-5)

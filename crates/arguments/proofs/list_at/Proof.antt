@@ -22,9 +22,6 @@ loop-holds c = collect-first (c .before .before .before .pre .inside)
 item-at-requires : tie.Need-item-at-requires Inv-loop μ-loop
 item-at-requires c κs = c .before .before .before .before .pre .filled
 
-enum-told : tie.Need-enum-told Inv-loop μ-loop
-enum-told c = search needs
-
 same-length : tie.Need-same-length Inv-loop μ-loop
 same-length c = c .before .before .before .loop .inv .same-ranges
 
@@ -34,26 +31,14 @@ same-length-2 c = c .before .before .before .loop .inv .same-stack
 returns : tie.Need-returns Inv-loop μ-loop
 returns c = collect-end (c .before .before .before .loop .inv) _ (c .before .before .before .before .before .before .before .args .b .now) _ (c .before .before .item-at .ensures (c .before .before .before .before .before .before .before .args .b .now)) (c .enum-told .given .1)
 
-enum-known-r : tie.Need-enum-known-r Inv-loop μ-loop
-enum-known-r c = search needs
-
 move-of-requires : tie.Need-move-of-requires Inv-loop μ-loop
 move-of-requires c κs = let a = c .before .before .before .before .before .loop .inv in let p = c .before .before .before .before .before .before .before .before .before .pre in omega (arith, a .deep, a .within, a .same-stack, p .small, p .brackets)
-
-enum-known-m : tie.Need-enum-known-m Inv-loop μ-loop
-enum-known-m c = search needs
 
 loop-less : tie.Need-loop-less Inv-loop μ-loop
 loop-less c = collect-less (c .before .before .before .before .before .before .before .before .before .before .before .loop .inv) _ (c .before .before .before .before .before .before .before .before .before .before .before .before .before .before .before .args .b .now) _ (c .before .before .before .before .before .before .before .before .before .before .item-at .ensures (c .before .before .before .before .before .before .before .before .before .before .before .before .before .before .before .args .b .now)) (c .before .before .before .before .before .before .before .before .r .given .1)
 
 loop-again : tie.Need-loop-again Inv-loop μ-loop
 loop-again c = collect-keep (c .before .before .before .before .before .before .before .before .before .before .before .loop .inv) _ (c .before .before .before .before .before .before .before .before .before .before .before .before .before .before .before .args .b .now) _ (c .before .before .before .before .before .before .before .before .before .before .item-at .ensures (c .before .before .before .before .before .before .before .before .before .before .before .before .before .before .before .args .b .now)) (c .before .before .before .before .before .before .before .before .r .given .1) _ _ (c .before .before .before .before .before .move-of .ensures) (c .before .m .given .1) (c .before .before .before .before .before .move-of .kept .1 .1 .1 .0)
-
-enum-told-2 : tie.Need-enum-told-2 Inv-loop μ-loop
-enum-told-2 c = search needs
-
-note-requires : tie.Need-note-requires Inv-loop μ-loop
-note-requires c κs = search needs
 
 add-k : tie.Need-add-k Inv-loop μ-loop
 add-k c = let a = c .before .before .before .before .before .before .before .before .before .before .before .before .before .loop .inv in omega (arith, a .many, a .within, c .before .before .before .before .before .before .before .before .before .before .before .before .before .before .before .before .before .pre .small)
@@ -63,12 +48,6 @@ loop-less-2 c = collect-less (c .before .before .before .before .before .before 
 
 loop-again-2 : tie.Need-loop-again-2 Inv-loop μ-loop
 loop-again-2 c = collect-part (c .before .before .before .before .before .before .before .before .before .before .before .before .before .loop .inv) _ (c .before .before .before .before .before .before .before .before .before .before .before .before .before .before .before .before .before .args .b .now) _ (c .before .before .before .before .before .before .before .before .before .before .before .before .item-at .ensures (c .before .before .before .before .before .before .before .before .before .before .before .before .before .before .before .before .before .args .b .now)) (c .before .before .before .before .before .before .before .before .before .before .r .given .1) _ _ (c .before .before .before .before .before .before .before .move-of .ensures) (c .before .note .ensures) (c .before .before .before .enum-told2 .given .1) (c .before .before .before .before .before .before .before .move-of .kept .1 .1 .1 .0)
-
-enum-told-3 : tie.Need-enum-told-3 Inv-loop μ-loop
-enum-told-3 c = search needs
-
-note-requires-2 : tie.Need-note-requires-2 Inv-loop μ-loop
-note-requires-2 c κs = search needs
 
 add-t27 : tie.Need-add-t27 Inv-loop μ-loop
 add-t27 c = let a = c .before .before .before .before .before .before .before .before .before .before .before .before .before .loop .inv in omega (arith, a .many, a .within, c .before .before .before .before .before .before .before .before .before .before .before .before .before .before .before .before .before .pre .small)
@@ -81,9 +60,6 @@ same-length-4 c = c .before .before .before .before .before .before .before .mov
 
 returns-2 : tie.Need-returns-2 Inv-loop μ-loop
 returns-2 c = collect-close (c .before .before .before .before .before .before .before .before .before .before .before .before .before .loop .inv) _ (c .before .before .before .before .before .before .before .before .before .before .before .before .before .before .before .before .before .args .b .now) _ (c .before .before .before .before .before .before .before .before .before .before .before .before .item-at .ensures (c .before .before .before .before .before .before .before .before .before .before .before .before .before .before .before .before .before .args .b .now)) (c .before .before .before .before .before .before .before .before .before .before .r .given .1) _ _ (c .before .before .before .before .before .before .before .move-of .ensures) (c .before .note2 .ensures) (c .before .before .before .enum-told3 .given .1)
-
-enum-known-m-2 : tie.Need-enum-known-m-2 Inv-loop μ-loop
-enum-known-m-2 c = search needs
 
 same-length-5 : tie.Need-same-length-5 Inv-loop μ-loop
 same-length-5 c = c .before .before .before .before .before .before .before .before .before .before .before .loop .inv .same-ranges
@@ -98,31 +74,7 @@ pub list-at-spec : {M : Type 1} → statement M
 list-at-spec =
     tie.close
     (tie.spec
-    Inv-loop
-    μ-loop
-    loop-holds
-    item-at-requires
-    enum-told
-    same-length
-    same-length-2
-    returns
-    enum-known-r
-    move-of-requires
-    enum-known-m
-    loop-less
-    loop-again
-    enum-told-2
-    note-requires
-    add-k
-    loop-less-2
-    loop-again-2
-    enum-told-3
-    note-requires-2
-    add-t27
-    same-length-3
-    same-length-4
-    returns-2
-    enum-known-m-2
-    same-length-5
-    same-length-6
-    returns-3)
+    Inv-loop μ-loop loop-holds item-at-requires (λ c. search needs) same-length same-length-2 returns
+    (λ c. search needs) move-of-requires (λ c. search needs) loop-less loop-again (λ c. search needs)
+    (λ c κs. search needs) add-k loop-less-2 loop-again-2 (λ c. search needs) (λ c κs. search needs) add-t27
+    same-length-3 same-length-4 returns-2 (λ c. search needs) same-length-5 same-length-6 returns-3)

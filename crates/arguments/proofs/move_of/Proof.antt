@@ -8,18 +8,6 @@ use Rattle.arguments.proofs.move_of.Tie as tie
 returns : tie.Need-returns
 returns c = move-shut _ _ (c .before .before .before .before .before .args .t) _ (c .if1 .taken)
 
-first-byte-requires : tie.Need-first-byte-requires
-first-byte-requires c κs = search needs
-
-name-of-requires : tie.Need-name-of-requires
-name-of-requires c κs = search needs
-
-kind-move-requires : tie.Need-kind-move-requires
-kind-move-requires c κs = search needs
-
-same-length : tie.Need-same-length
-same-length c = search needs
-
 returns-2 : tie.Need-returns-2
 returns-2 c = move-clear (c .before .before .before .before .before .before .before .before .before .before .before .before .args .s .now) (c .before .before .before .before .before .before .before .before .before .before .before .before .args .b .now) (c .before .before .before .before .before .before .before .before .before .before .before .before .args .t) (c .before .before .before .before .before .before .before .before .before .before .before .before .args .stack .now) (c .before .before .kind-move .last .1 .1 .1 .0) (c .before .before .before .before .before .before .before .before .before .before .before .before .args .depth) (c .before .before .kind-move .result) _ _ (c .before .before .before .before .before .before .before .if1 .left) (c .before .before .before .before .before .first-byte .ensures) (c .before .before .before .before .name-of .ensures) (c .before .before .kind-move .ensures)
 
@@ -27,9 +15,4 @@ pub move-of-spec : {M : Type 1} → statement M
 move-of-spec =
     tie.close
     (tie.spec
-    returns
-    first-byte-requires
-    name-of-requires
-    kind-move-requires
-    same-length
-    returns-2)
+    returns (λ c κs. search needs) (λ c κs. search needs) (λ c κs. search needs) (λ c. search needs) returns-2)

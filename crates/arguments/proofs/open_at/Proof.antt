@@ -16,26 +16,11 @@ Inv-loop s b list n file at i₀ i = seek (itemsFrom s b list n file at) ≡ see
 abbrev μ-loop : tie.MeasureT-loop
 μ-loop s b list n file at i₀ i = lastOf s n file - i
 
-loop-holds : tie.Need-loop-holds Inv-loop μ-loop
-loop-holds c = refl
-
-item-at-requires : tie.Need-item-at-requires Inv-loop μ-loop
-item-at-requires c κs = search needs
-
-enum-told : tie.Need-enum-told Inv-loop μ-loop
-enum-told c = search needs
-
 returns : tie.Need-returns Inv-loop μ-loop
 returns c = c .before .before .before .loop .inv ∙ opening-out _ _ _ _ _ (c .before .before .item-at .result) (c .before .before .item-at .ensures (c .before .before .before .before .before .before .args .b .now)) (c .enum-told .given .1)
 
-enum-known-r : tie.Need-enum-known-r Inv-loop μ-loop
-enum-known-r c = search needs
-
 returns-2 : tie.Need-returns-2 Inv-loop μ-loop
 returns-2 c = c .before .before .before .before .before .before .loop .inv ∙ opening-shut _ _ _ _ _ (c .before .before .before .before .before .item-at .result) (c .before .before .before .before .before .item-at .ensures (c .before .before .before .before .before .before .before .before .before .args .b .now)) _ (c .before .before .before .r .given .1) (c .if1 .taken)
-
-is-blank-requires : tie.Need-is-blank-requires Inv-loop μ-loop
-is-blank-requires c κs = search needs
 
 loop-less : tie.Need-loop-less Inv-loop μ-loop
 loop-less c = let t = opening-item _ _ _ _ _ (c .before .before .before .before .before .before .before .before .item-at .result) (c .before .before .before .before .before .before .before .before .item-at .ensures (c .before .before .before .before .before .before .before .before .before .before .before .before .args .b .now)) _ (c .before .before .before .before .before .before .r .given .1) in omega arith
@@ -45,9 +30,6 @@ loop-again c = c .before .before .before .before .before .before .before .before
 
 returns-3 : tie.Need-returns-3 Inv-loop μ-loop
 returns-3 c = c .before .before .before .before .before .before .before .before .before .before .before .loop .inv ∙ opening-other _ _ _ _ _ (c .before .before .before .before .before .before .before .before .before .before .item-at .result) (c .before .before .before .before .before .before .before .before .before .before .item-at .ensures (c .before .before .before .before .before .before .before .before .before .before .before .before .before .before .args .b .now)) _ (c .before .before .before .before .before .before .before .before .r .given .1) (c .before .before .before .before .before .if1 .left) _ (c .before .before .before .is-blank .ensures) (c .before .before .if2 .left) (c .if3 .taken)
-
-first-byte-requires : tie.Need-first-byte-requires Inv-loop μ-loop
-first-byte-requires c κs = search needs
 
 returns-4 : tie.Need-returns-4 Inv-loop μ-loop
 returns-4 c = let o = opening-here _ _ _ _ _ (c .before .before .before .before .before .before .before .before .before .before .before .before .item-at .result) (c .before .before .before .before .before .before .before .before .before .before .before .before .item-at .ensures (c .before .before .before .before .before .before .before .before .before .before .before .before .before .before .before .before .args .b .now)) _ (c .before .before .before .before .before .before .before .before .before .before .r .given .1) (c .before .before .before .before .before .before .before .if1 .left) (c .before .before .if3 .left) _ (c .before .first-byte .ensures) (c .if4 .taken) in (c .before .before .before .before .before .before .before .before .before .before .before .before .before .loop .inv ∙ o .0, o .1)
@@ -59,18 +41,5 @@ pub open-at-spec : {M : Type 1} → statement M
 open-at-spec =
     tie.close
     (tie.spec
-    Inv-loop
-    μ-loop
-    loop-holds
-    item-at-requires
-    enum-told
-    returns
-    enum-known-r
-    returns-2
-    is-blank-requires
-    loop-less
-    loop-again
-    returns-3
-    first-byte-requires
-    returns-4
-    returns-5)
+    Inv-loop μ-loop (λ c. refl) (λ c κs. search needs) (λ c. search needs) returns (λ c. search needs) returns-2
+    (λ c κs. search needs) loop-less loop-again returns-3 (λ c κs. search needs) returns-4 returns-5)

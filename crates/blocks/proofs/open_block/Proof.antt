@@ -10,27 +10,6 @@ use Rattle.blocks.proofs.open_block.Tie as tie
 returns : tie.Need-returns
 returns c = (open-refused _ (c .before .args .z .open) _ _ _ (omega (arith, c .if1 .taken)), refl)
 
-bit-requires : tie.Need-bit-requires
-bit-requires c κs = search needs
-
-bit-requires-2 : tie.Need-bit-requires-2
-bit-requires-2 c κs = search needs
-
-bit-requires-3 : tie.Need-bit-requires-3
-bit-requires-3 c κs = search needs
-
-mul-t13 : tie.Need-mul-t13
-mul-t13 c = search needs
-
-slice-set-from-w : tie.Need-slice-set-from-w
-slice-set-from-w c = search needs
-
-add-t9 : tie.Need-add-t9
-add-t9 c = search needs
-
-same-length : tie.Need-same-length
-same-length c = search needs
-
 returns-2 : tie.Need-returns-2
 returns-2 c = open-taken _ (c .before .before .before .before .before .args .z) _ _ _ _ _ _ (c .before .before .before .before .before .pre) (omega (arith, c .before .before .before .before .if1 .left)) (c .before .before .bit .ensures) (c .before .bit2 .ensures) (c .bit3 .ensures)
 
@@ -38,12 +17,5 @@ pub open-block-spec : {M : Type 1} → statement M
 open-block-spec =
     tie.close
     (tie.spec
-    returns
-    bit-requires
-    bit-requires-2
-    bit-requires-3
-    mul-t13
-    slice-set-from-w
-    add-t9
-    same-length
-    returns-2)
+    returns (λ c κs. search needs) (λ c κs. search needs) (λ c κs. search needs) (λ c. search needs)
+    (λ c. search needs) (λ c. search needs) (λ c. search needs) returns-2)

@@ -10,12 +10,6 @@ use Rattle.brackets.proofs.close.Tie as tie
 returns : tie.Need-returns
 returns c = (close-none _ _ _ (c .if1 .taken), refl)
 
-sub-d : tie.Need-sub-d
-sub-d c = search needs
-
-level-requires : tie.Need-level-requires
-level-requires c κs = search needs
-
 returns-2 : tie.Need-returns-2
 returns-2 c = (close-due _ _ _ (c .before .before .if1 .left) (sym (c .before .level .ensures) ∙ c .if2 .taken), omega arith, omega arith)
 
@@ -23,4 +17,5 @@ returns-3 : tie.Need-returns-3
 returns-3 c = (close-other _ _ _ (c .before .before .if1 .left) (λ e. c .if2 .left (c .before .level .ensures ∙ e)), refl)
 
 pub close-spec : {M : Type 1} → statement M
-close-spec = tie.close (tie.spec returns sub-d level-requires returns-2 returns-3)
+close-spec = tie.close (tie.spec
+    returns (λ c. search needs) (λ c κs. search needs) returns-2 returns-3)

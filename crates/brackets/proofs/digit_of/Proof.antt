@@ -14,4 +14,5 @@ returns-3 : tie.Need-returns-3
 returns-3 c = simp (ne-eqb _ _ (c .before .if1 .left), ne-eqb _ _ (c .if2 .left))
 
 pub digit-of-spec : {M : Type 1} → statement M
-digit-of-spec = tie.close (tie.spec returns returns-2 returns-3)
+digit-of-spec = tie.close (tie.spec
+    returns returns-2 returns-3)

@@ -8,17 +8,8 @@ use borrow.Author.Needs.{needs}
 use Rattle.brackets.proofs.level.Statement.{statement}
 use Rattle.brackets.proofs.level.Tie as tie
 
-shared-slice-read-b : tie.Need-shared-slice-read-b
-shared-slice-read-b c = search needs
-
-weight-requires : tie.Need-weight-requires
-weight-requires c κs = search needs
-
 div-bracket-of : tie.Need-div-bracket-of
 div-bracket-of c = rw (c .weight .ensures) (weight-some (c .before .before .before .args .depth % 4))
-
-bracket-of-requires : tie.Need-bracket-of-requires
-bracket-of-requires c κs = search needs
 
 returns : tie.Need-returns
 unfolding levelOf
@@ -27,4 +18,5 @@ returns c = c .bracket-of .ensures ∙ rw (c .before .weight .ensures)
 pub level-spec : {M : Type 1} → statement M
 level-spec =
     tie.close
-    (tie.spec shared-slice-read-b weight-requires div-bracket-of bracket-of-requires returns)
+    (tie.spec
+    (λ c. search needs) (λ c κs. search needs) div-bracket-of (λ c κs. search needs) returns)

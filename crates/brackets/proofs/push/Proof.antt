@@ -17,32 +17,14 @@ returns c = inl (omega arith)
 returns-2 : tie.Need-returns-2
 returns-2 c = inr (omega arith)
 
-weight-requires : tie.Need-weight-requires
-weight-requires c κs = search needs
-
-slice-read-stack : tie.Need-slice-read-stack
-slice-read-stack c = search needs
-
 rem-stack : tie.Need-rem-stack
 rem-stack c = rw (c .before .weight .ensures) (weight-some (c .before .before .before .before .before .args .depth % 4))
-
-digit-of-requires : tie.Need-digit-of-requires
-digit-of-requires c κs = search needs
 
 mul-stack : tie.Need-mul-stack
 mul-stack c = rw (c .before .before .weight .ensures, c .digit-of .ensures) (record { fits = digit-fits (digitOf (c .before .before .before .before .before .before .args .b)) (c .before .before .before .before .before .before .args .depth % 4) (digit-small (c .before .before .before .before .before .before .args .b)) })
 
 add-stack : tie.Need-add-stack
 add-stack c = rw (c .before .before .weight .ensures, c .digit-of .ensures) (record { fits = with-fits (getD (c .before .before .before .before .before .before .args .stack .now) (c .before .before .before .before .before .before .args .depth / 4) 0) (digitOf (c .before .before .before .before .before .before .args .b)) (c .before .before .before .before .before .before .args .depth % 4) (digit-small (c .before .before .before .before .before .before .args .b)) })
-
-slice-write-stack : tie.Need-slice-write-stack
-slice-write-stack c = search needs
-
-add-t6 : tie.Need-add-t6
-add-t6 c = search needs
-
-same-length : tie.Need-same-length
-same-length c = search needs
 
 returns-3 : tie.Need-returns-3
 returns-3 c = (pushed _ _ _ _ _ (omega arith) (c .before .before .before .before .before .before .pre .1) (c .before .before .weight .ensures) (c .digit-of .ensures), omega arith, omega arith)
@@ -51,15 +33,5 @@ pub push-spec : {M : Type 1} → statement M
 push-spec =
     tie.close
     (tie.spec
-    returns
-    returns-2
-    weight-requires
-    slice-read-stack
-    rem-stack
-    digit-of-requires
-    mul-stack
-    add-stack
-    slice-write-stack
-    add-t6
-    same-length
-    returns-3)
+    returns returns-2 (λ c κs. search needs) (λ c. search needs) rem-stack (λ c κs. search needs) mul-stack
+    add-stack (λ c. search needs) (λ c. search needs) (λ c. search needs) returns-3)

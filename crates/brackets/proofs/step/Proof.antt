@@ -18,50 +18,20 @@ returns-2 c = (step-comma _ _ _ (c .before .if1 .taken) (c .if2 .left), omega ar
 returns-3 : tie.Need-returns-3
 returns-3 c = (step-ends _ _ _ (c .before .if3 .taken) (c .if4 .taken), refl)
 
-close-requires : tie.Need-close-requires
-close-requires c κs = search needs
-
-same-length : tie.Need-same-length
-same-length c = search needs
-
 returns-4 : tie.Need-returns-4
 returns-4 c = rw (step-paren (c .before .before .before .before .before .before .args .stack .now) (c .before .before .before .before .before .before .args .depth) (c .before .before .before .before .before .before .args .b) (c .before .before .before .if3 .taken) (c .before .before .if4 .left)) (c .close .ensures)
-
-close-requires-2 : tie.Need-close-requires-2
-close-requires-2 c κs = search needs
-
-same-length-2 : tie.Need-same-length-2
-same-length-2 c = search needs
 
 returns-5 : tie.Need-returns-5
 unfolding stepOf
 returns-5 c = simp (ne-eqb _ _ (c .before .before .before .before .if1 .left), ne-eqb _ _ (c .before .before .before .if3 .left), c .before .before .if5 .taken) (c .close2 .ensures)
 
-push-requires : tie.Need-push-requires
-push-requires c κs = search needs
-
-same-length-3 : tie.Need-same-length-3
-same-length-3 c = search needs
-
 returns-6 : tie.Need-returns-6
 unfolding stepOf
 returns-6 c = simp (ne-eqb _ _ (c .before .before .before .before .before .before .before .if1 .left), ne-eqb _ _ (c .before .before .before .before .before .before .if3 .left), c .before .before .before .before .before .if5 .left, eq-eqb _ _ (c .before .before .before .before .if6 .taken)) (c .before .before .push .ensures)
 
-push-requires-2 : tie.Need-push-requires-2
-push-requires-2 c κs = search needs
-
-same-length-4 : tie.Need-same-length-4
-same-length-4 c = search needs
-
 returns-7 : tie.Need-returns-7
 unfolding stepOf
 returns-7 c = simp (ne-eqb _ _ (c .before .before .before .before .before .before .before .before .if1 .left), ne-eqb _ _ (c .before .before .before .before .before .before .before .if3 .left), ne-eqb _ _ (c .before .before .before .before .before .if6 .left), c .before .before .before .before .before .before .if5 .left, eq-eqb _ _ (c .before .before .before .before .if7 .taken)) (c .before .before .push2 .ensures)
-
-push-requires-3 : tie.Need-push-requires-3
-push-requires-3 c κs = search needs
-
-same-length-5 : tie.Need-same-length-5
-same-length-5 c = search needs
 
 returns-8 : tie.Need-returns-8
 unfolding stepOf
@@ -75,22 +45,6 @@ pub step-spec : {M : Type 1} → statement M
 step-spec =
     tie.close
     (tie.spec
-    returns
-    returns-2
-    returns-3
-    close-requires
-    same-length
-    returns-4
-    close-requires-2
-    same-length-2
-    returns-5
-    push-requires
-    same-length-3
-    returns-6
-    push-requires-2
-    same-length-4
-    returns-7
-    push-requires-3
-    same-length-5
-    returns-8
-    returns-9)
+    returns returns-2 returns-3 (λ c κs. search needs) (λ c. search needs) returns-4 (λ c κs. search needs)
+    (λ c. search needs) returns-5 (λ c κs. search needs) (λ c. search needs) returns-6 (λ c κs. search needs)
+    (λ c. search needs) returns-7 (λ c κs. search needs) (λ c. search needs) returns-8 returns-9)

@@ -6,47 +6,11 @@ use borrow.Author.Needs.{needs}
 use Rattle.choosing.proofs.choose_by_condition.Statement.{statement}
 use Rattle.choosing.proofs.choose_by_condition.Tie as tie
 
-condition-at-requires : tie.Need-condition-at-requires
-condition-at-requires c κs = search needs
-
-enum-known-c : tie.Need-enum-known-c
-enum-known-c c = search needs
-
-next-block-requires : tie.Need-next-block-requires
-next-block-requires c κs = search needs
-
-chosen-by-requires : tie.Need-chosen-by-requires
-chosen-by-requires c κs = search needs
-
-same-length : tie.Need-same-length
-same-length c = search needs
-
 returns : tie.Need-returns
 returns c h here = takes-elsif (c .before .before .before .before .before .before .before .before .before .before .before .args .d) here _ (c .before .before .before .before .before .before .before .before .before .before .before .pre .2) (c .before .before .before .before .before .before .before .before .before .before .before .pre .3) (c .before .before .before .before .before .before .before .before .condition-at .result) (c .before .before .before .before .before .before .before .before .condition-at .ensures) _ _ (c .before .before .before .before .before .before .c .given .1) (c .before .before .next-block .result) _ (c .before .before .before .before .if1 .taken) (c .before .before .next-block .ensures) (c .chosen-by .ensures)
 
-open-block-requires : tie.Need-open-block-requires
-open-block-requires c κs = search needs
-
-chosen-by-requires-2 : tie.Need-chosen-by-requires-2
-chosen-by-requires-2 c κs = search needs
-
-same-length-2 : tie.Need-same-length-2
-same-length-2 c = search needs
-
 returns-2 : tie.Need-returns-2
 returns-2 c h here = takes-ifdef (c .before .before .before .before .before .before .before .before .before .before .before .before .args .d) here _ (c .before .before .before .before .before .before .before .before .before .before .before .before .pre .2) (c .before .before .before .before .before .before .before .before .before .before .before .before .pre .3) (c .before .before .before .before .before .before .before .before .before .condition-at .result) (c .before .before .before .before .before .before .before .before .before .condition-at .ensures) _ _ (c .before .before .before .before .before .before .before .c .given .1) (c .before .before .open-block .result) _ (c .before .before .before .before .if2 .taken) (c .before .before .open-block .ensures) (c .chosen-by2 .ensures)
-
-open-block-requires-2 : tie.Need-open-block-requires-2
-open-block-requires-2 c κs = search needs
-
-chosen-by-requires-3 : tie.Need-chosen-by-requires-3
-chosen-by-requires-3 c κs = search needs
-
-enum-known-c-2 : tie.Need-enum-known-c-2
-enum-known-c-2 c = search needs
-
-same-length-3 : tie.Need-same-length-3
-same-length-3 c = search needs
 
 returns-3 : tie.Need-returns-3
 returns-3 c h here = takes-ifndef (c .before .before .before .before .before .before .before .before .before .before .before .before .args .d) here _ (c .before .before .before .before .before .before .before .before .before .before .before .before .pre .2) (c .before .before .before .before .before .before .before .before .before .before .before .before .pre .3) (c .before .before .before .before .before .before .before .before .before .condition-at .result) (c .before .before .before .before .before .before .before .before .before .condition-at .ensures) _ _ (c .before .before .before .before .before .before .before .c .given .1) (c .before .before .open-block2 .result) _ (c .before .before .before .before .before .if1 .left) (c .before .before .before .before .if2 .left) (c .before .before .open-block2 .ensures) (c .chosen-by3 .ensures)
@@ -58,19 +22,6 @@ pub choose-by-condition-spec : {M : Type 1} → statement M
 choose-by-condition-spec =
     tie.close
     (tie.spec
-    condition-at-requires
-    enum-known-c
-    next-block-requires
-    chosen-by-requires
-    same-length
-    returns
-    open-block-requires
-    chosen-by-requires-2
-    same-length-2
-    returns-2
-    open-block-requires-2
-    chosen-by-requires-3
-    enum-known-c-2
-    same-length-3
-    returns-3
-    returns-4)
+    (λ c κs. search needs) (λ c. search needs) (λ c κs. search needs) (λ c κs. search needs) (λ c. search needs)
+    returns (λ c κs. search needs) (λ c κs. search needs) (λ c. search needs) returns-2 (λ c κs. search needs)
+    (λ c κs. search needs) (λ c. search needs) (λ c. search needs) returns-3 returns-4)

@@ -4,12 +4,6 @@ use borrow.Author.Needs.{needs}
 use Rattle.choosing.proofs.chosen_by.Statement.{statement}
 use Rattle.choosing.proofs.chosen_by.Tie as tie
 
-enum-known-r : tie.Need-enum-known-r
-enum-known-r c = search needs
-
-enum-told : tie.Need-enum-told
-enum-told c = search needs
-
 returns : tie.Need-returns
 returns c = rw (c .before .r .given .1)
 
@@ -17,4 +11,5 @@ returns-2 : tie.Need-returns-2
 returns-2 c = rw (c .enum-told .given .1)
 
 pub chosen-by-spec : {M : Type 1} → statement M
-chosen-by-spec = tie.close (tie.spec enum-known-r enum-told returns returns-2)
+chosen-by-spec = tie.close (tie.spec
+    (λ c. search needs) (λ c. search needs) returns returns-2)

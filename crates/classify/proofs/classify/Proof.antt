@@ -20,12 +20,10 @@ returns c = record { answer = rw (c .if1 .taken); list = rw (c .if1 .taken) }
 classify-taken-requires : tie.Need-classify-taken-requires
 classify-taken-requires c κs = ltb-false _ _ (or-right (ltb 3 (c .before .before .before .args .set)) _ (c .before .if1 .left))
 
-same-length : tie.Need-same-length
-same-length c = search needs
-
 returns-2 : tie.Need-returns-2
 unfolding outcomeOf
 returns-2 c = rw (c .before .before .before .if1 .left) (c .before .classify-taken .ensures)
 
 pub classify-spec : {M : Type 1} → statement M
-classify-spec = tie.close (tie.spec returns classify-taken-requires same-length returns-2)
+classify-spec = tie.close (tie.spec
+    returns classify-taken-requires (λ c. search needs) returns-2)

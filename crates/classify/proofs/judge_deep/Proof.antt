@@ -9,9 +9,6 @@ use Rattle.classify.proofs.judge_deep.Tie as tie
 slice-aggregate-judge-definition : tie.Need-slice-aggregate-judge-definition
 slice-aggregate-judge-definition c = filled 4194304
 
-judge-definition-requires : tie.Need-judge-definition-requires
-judge-definition-requires c κs = search needs
-
 same-length : tie.Need-same-length
 same-length c = c .before .before .before .judge-definition .kept .1 .1 .0
 
@@ -21,4 +18,5 @@ returns c = enough 4194304 (omega (arith, c .before .before .before .before .bef
 pub judge-deep-spec : {M : Type 1} → statement M
 judge-deep-spec =
     tie.close
-    (tie.spec slice-aggregate-judge-definition judge-definition-requires same-length returns)
+    (tie.spec
+    slice-aggregate-judge-definition (λ c κs. search needs) same-length returns)

@@ -10,12 +10,10 @@ returns : tie.Need-returns
 unfolding refusedLine
 returns c = rw (le-leb _ _ (c .if1 .taken))
 
-line-at-requires : tie.Need-line-at-requires
-line-at-requires c κs = search needs
-
 returns-2 : tie.Need-returns-2
 unfolding refusedLine
 returns-2 c = rw (lt-leb _ _ (c .before .if1 .left)) (c .line-at .ensures)
 
 pub line-of-spec : {M : Type 1} → statement M
-line-of-spec = tie.close (tie.spec returns line-at-requires returns-2)
+line-of-spec = tie.close (tie.spec
+    returns (λ c κs. search needs) returns-2)

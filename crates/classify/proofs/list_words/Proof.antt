@@ -19,15 +19,6 @@ abbrev μ-loop : tie.MeasureT-loop
 loop-holds : tie.Need-loop-holds Inv-loop μ-loop
 loop-holds c = (written-none _ _ _, refl, refl)
 
-in-file-requires : tie.Need-in-file-requires Inv-loop μ-loop
-in-file-requires c κs = tt
-
-token-at-requires : tie.Need-token-at-requires Inv-loop μ-loop
-token-at-requires c κs = tt
-
-make-ended-requires : tie.Need-make-ended-requires Inv-loop μ-loop
-make-ended-requires c κs = tt
-
 same-length : tie.Need-same-length Inv-loop μ-loop
 same-length c = written-length _ _ _ _ _ _ _ (c .before .before .before .before .before .before .loop .inv .0)
 
@@ -39,9 +30,6 @@ same-length-3 c = c .before .before .before .before .before .before .loop .inv .
 
 returns : tie.Need-returns Inv-loop μ-loop
 returns c = listed-barred _ _ _ _ _ _ _ (c .before .before .before .before .before .before .loop .inv .0) _ _ (c .before .before .before .before .before .loop-test .taken) (c .before .before .before .before .in-file .ensures) (c .before .before .before .token-at .ensures) _ (c .before .if1 .taken) (c .make-ended .ensures)
-
-make-ended-requires-2 : tie.Need-make-ended-requires-2 Inv-loop μ-loop
-make-ended-requires-2 c κs = tt
 
 same-length-4 : tie.Need-same-length-4 Inv-loop μ-loop
 same-length-4 c = written-length _ _ _ _ _ _ _ (c .before .before .before .before .before .before .before .before .before .loop .inv .0)
@@ -94,9 +82,6 @@ loop-again-3 c = (written-on _ _ _ _ _ _ _ (c .before .before .before .before .b
 enum-known-p-2 : tie.Need-enum-known-p-2 Inv-loop μ-loop
 enum-known-p-2 c = c .match .keys2
 
-make-ended-requires-3 : tie.Need-make-ended-requires-3 Inv-loop μ-loop
-make-ended-requires-3 c κs = tt
-
 same-length-7 : tie.Need-same-length-7 Inv-loop μ-loop
 same-length-7 c = written-length _ _ _ _ _ _ _ (c .before .before .before .before .before .before .before .before .before .before .before .before .before .before .before .before .before .before .before .before .loop .inv .0)
 
@@ -108,9 +93,6 @@ same-length-9 c = c .before .before .before .before .before .before .before .bef
 
 returns-3 : tie.Need-returns-3 Inv-loop μ-loop
 returns-3 c = listed-stop _ _ _ _ _ _ _ (c .before .before .before .before .before .before .before .before .before .before .before .before .before .before .before .before .before .before .before .before .loop .inv .0) _ _ (c .before .before .before .before .before .before .before .before .before .before .before .before .before .before .before .before .before .before .before .loop-test .taken) (c .before .before .before .before .before .before .before .before .before .before .before .before .before .before .before .before .before .before .in-file .ensures) (c .before .before .before .before .before .before .before .before .before .before .before .before .before .before .before .before .before .token-at .ensures) (c .before .before .before .before .before .before .before .before .before .before .before .before .before .before .before .if1 .left) (c .before .before .before .before .before .before .before .before .before .before .before .before .before .if2 .left) (c .before .before .before .before .before .before .before .before .before .before .before .if4 .left) _ (c .before .before .before .before .before .before .before .before .past-grave .ensures) _ _ _ (c .before .before .p2 .given .1) (c .make-ended3 .ensures)
-
-make-ended-requires-4 : tie.Need-make-ended-requires-4 Inv-loop μ-loop
-make-ended-requires-4 c κs = tt
 
 same-length-10 : tie.Need-same-length-10 Inv-loop μ-loop
 same-length-10 c = written-length _ _ _ _ _ _ _ (c .before .before .loop .inv .0)
@@ -128,41 +110,8 @@ pub list-words-spec : {M : Type 1} → statement M
 list-words-spec =
     tie.close
     (tie.spec
-    Inv-loop
-    μ-loop
-    loop-holds
-    in-file-requires
-    token-at-requires
-    make-ended-requires
-    same-length
-    same-length-2
-    same-length-3
-    returns
-    make-ended-requires-2
-    same-length-4
-    same-length-5
-    same-length-6
-    returns-2
-    word-of-requires
-    mul-t21
-    slice-set-from-words
-    add-n
-    loop-less
-    loop-again
-    loop-less-2
-    loop-again-2
-    past-grave-requires
-    enum-known-p
-    loop-less-3
-    loop-again-3
-    enum-known-p-2
-    make-ended-requires-3
-    same-length-7
-    same-length-8
-    same-length-9
-    returns-3
-    make-ended-requires-4
-    same-length-10
-    same-length-11
-    same-length-12
-    returns-4)
+    Inv-loop μ-loop loop-holds (λ c κs. tt) (λ c κs. tt) (λ c κs. tt) same-length same-length-2 same-length-3
+    returns (λ c κs. tt) same-length-4 same-length-5 same-length-6 returns-2 word-of-requires mul-t21
+    slice-set-from-words add-n loop-less loop-again loop-less-2 loop-again-2 past-grave-requires enum-known-p
+    loop-less-3 loop-again-3 enum-known-p-2 (λ c κs. tt) same-length-7 same-length-8 same-length-9 returns-3
+    (λ c κs. tt) same-length-10 same-length-11 same-length-12 returns-4)

@@ -5,12 +5,6 @@ use borrow.Author.Needs.{needs}
 use Rattle.classify.proofs.past_condition.Statement.{statement}
 use Rattle.classify.proofs.past_condition.Tie as tie
 
-enum-known-c : tie.Need-enum-known-c
-enum-known-c c = search needs
-
-enum-known-c-2 : tie.Need-enum-known-c-2
-enum-known-c-2 c = search needs
-
 returns : tie.Need-returns
 returns c = simp (c .before .before .c2 .given .1, eq-eqb _ _ (c .if1 .taken))
 
@@ -21,4 +15,5 @@ returns-3 : tie.Need-returns-3
 returns-3 c = simp (c .before .before .c2 .given .1, ne-eqb _ _ (c .if1 .left))
 
 pub past-condition-spec : {M : Type 1} → statement M
-past-condition-spec = tie.close (tie.spec enum-known-c enum-known-c-2 returns returns-2 returns-3)
+past-condition-spec = tie.close (tie.spec
+    (λ c. search needs) (λ c. search needs) returns returns-2 returns-3)

@@ -4,18 +4,6 @@ use borrow.Author.Needs.{needs}
 use Rattle.classify.proofs.past_form.Statement.{statement}
 use Rattle.classify.proofs.past_form.Tie as tie
 
-enum-known-f : tie.Need-enum-known-f
-enum-known-f c = search needs
-
-set-after-requires : tie.Need-set-after-requires
-set-after-requires c κs = search needs
-
-enum-told : tie.Need-enum-told
-enum-told c = search needs
-
-enum-known-f-2 : tie.Need-enum-known-f-2
-enum-known-f-2 c = search needs
-
 returns : tie.Need-returns
 returns c = simp (c .before .before .f .given .1, c .set-after .ensures)
 
@@ -28,4 +16,5 @@ returns-3 c = rw (c .before .f2 .given .1)
 pub past-form-spec : {M : Type 1} → statement M
 past-form-spec =
     tie.close
-    (tie.spec enum-known-f set-after-requires enum-told enum-known-f-2 returns returns-2 returns-3)
+    (tie.spec
+    (λ c. search needs) (λ c κs. search needs) (λ c. search needs) (λ c. search needs) returns returns-2 returns-3)

@@ -5,21 +5,6 @@ use Rattle.classify.specs.Words.{pastGrave}
 use Rattle.classify.proofs.past_grave.Statement.{statement}
 use Rattle.classify.proofs.past_grave.Tie as tie
 
-part-of-requires : tie.Need-part-of-requires
-part-of-requires c κs = search needs
-
-directive-of-requires : tie.Need-directive-of-requires
-directive-of-requires c κs = search needs
-
-past-directive-requires : tie.Need-past-directive-requires
-past-directive-requires c κs = search needs
-
-same-length : tie.Need-same-length
-same-length c = search needs
-
-same-length-2 : tie.Need-same-length-2
-same-length-2 c = search needs
-
 returns : tie.Need-returns
 unfolding pastGrave
 returns c = rw (← c .before .before .before .before .before .before .before .before .part-of .ensures, ← c .before .before .before .before .before .before .before .directive-of .ensures) (c .before .before .before .before .past-directive .ensures)
@@ -28,9 +13,5 @@ pub past-grave-spec : {M : Type 1} → statement M
 past-grave-spec =
     tie.close
     (tie.spec
-    part-of-requires
-    directive-of-requires
-    past-directive-requires
-    same-length
-    same-length-2
+    (λ c κs. search needs) (λ c κs. search needs) (λ c κs. search needs) (λ c. search needs) (λ c. search needs)
     returns)

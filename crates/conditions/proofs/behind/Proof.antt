@@ -14,15 +14,6 @@ unequal true false = refl
 unequal false true = refl
 unequal false false = refl
 
-enum-known-x : tie.Need-enum-known-x
-enum-known-x c = search needs
-
-next-token-requires : tie.Need-next-token-requires
-next-token-requires c κs = search needs
-
-enum-known-x-2 : tie.Need-enum-known-x-2
-enum-known-x-2 c = search needs
-
 returns : tie.Need-returns
 returns c = simp (c .before .before .x .given .1, unequal, c .next-token .ensures)
 
@@ -31,4 +22,5 @@ returns-2 c = simp (c .before .x2 .given .1)
 
 pub behind-spec : {M : Type 1} → statement M
 behind-spec =
-    tie.close (tie.spec enum-known-x next-token-requires enum-known-x-2 returns returns-2)
+    tie.close (tie.spec
+    (λ c. search needs) (λ c κs. search needs) (λ c. search needs) returns returns-2)

@@ -8,21 +8,12 @@ use Rattle.conditions.proofs.Closing.{opens, names}
 use Rattle.conditions.proofs.condition_at.Statement.{statement}
 use Rattle.conditions.proofs.condition_at.Tie as tie
 
-next-token-requires : tie.Need-next-token-requires
-next-token-requires c κs = search needs
-
-peek-requires : tie.Need-peek-requires
-peek-requires c κs = search needs
-
 parentheses-requires : tie.Need-parentheses-requires
 parentheses-requires c κs = (byte-inside (c .before .before .before .before .before .args .s .now) (c .before .before .next-token .result) 40 (omega arith) (c .before .peek .ensures) (c .if1 .taken), c .before .before .before .before .before .pre)
 
 returns : tie.Need-returns
 unfolding conditionAt
 returns c ms h = rw (← c .before .before .before .next-token .ensures) (opens _ 32 _ _ (c .before .before .peek .ensures) (c .before .if1 .taken) (c .parentheses .ensures) ms h)
-
-name-at-requires : tie.Need-name-at-requires
-name-at-requires c κs = search needs
 
 returns-2 : tie.Need-returns-2
 unfolding conditionAt
@@ -32,9 +23,4 @@ pub condition-at-spec : {M : Type 1} → statement M
 condition-at-spec =
     tie.close
     (tie.spec
-    next-token-requires
-    peek-requires
-    parentheses-requires
-    returns
-    name-at-requires
-    returns-2)
+    (λ c κs. search needs) (λ c κs. search needs) parentheses-requires returns (λ c κs. search needs) returns-2)

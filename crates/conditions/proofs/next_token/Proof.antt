@@ -27,17 +27,9 @@ here s i b z e =
     let n = eqb-false (getD s i 0) 47 (not-true (eqb (getD s i 0) 47) (and-right (ltb 32 (getD s i 0)) _ f)) in
     sym (start-solid s i l (not-white (getD s i 0) g) n)
 
-peek-requires : tie.Need-peek-requires
-peek-requires c κs = search needs
-
 returns : tie.Need-returns
 returns c = here _ _ _ (c .before .peek .ensures) (c .if1 .taken)
 
-word-start-requires : tie.Need-word-start-requires
-word-start-requires c κs = search needs
-
-returns-2 : tie.Need-returns-2
-returns-2 c = search needs
-
 pub next-token-spec : {M : Type 1} → statement M
-next-token-spec = tie.close (tie.spec peek-requires returns word-start-requires returns-2)
+next-token-spec = tie.close (tie.spec
+    (λ c κs. search needs) returns (λ c κs. search needs) (λ c. search needs))

@@ -11,4 +11,5 @@ returns-2 : tie.Need-returns-2
 returns-2 c = simp (eq-eqb _ _ (c .if1 .left))
 
 pub refuse-spec : {M : Type 1} → statement M
-refuse-spec = tie.close (tie.spec returns returns-2)
+refuse-spec = tie.close (tie.spec
+    returns returns-2)

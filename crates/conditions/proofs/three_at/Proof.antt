@@ -7,14 +7,8 @@ use Rattle.conditions.proofs.Signs.{begins-byte, byte-inside}
 use Rattle.conditions.proofs.three_at.Statement.{statement}
 use Rattle.conditions.proofs.three_at.Tie as tie
 
-peek-requires : tie.Need-peek-requires
-peek-requires c κs = search needs
-
 returns : tie.Need-returns
 returns c = rw (begins-byte _ _ _ (c .before .before .before .pre .1), ← c .before .peek .ensures, ne-eqb _ _ (c .if1 .taken))
-
-add-two-at : tie.Need-add-two-at
-add-two-at c = search needs
 
 two-at-requires : tie.Need-two-at-requires
 two-at-requires c κs = (omega (arith, byte-inside (c .before .before .before .args .s .now) (c .before .before .before .args .at) _ (c .before .before .before .pre .1) (c .before .peek .ensures) (c .if1 .left)), c .before .before .before .pre .2, c .before .before .before .pre .3)
@@ -23,4 +17,5 @@ returns-2 : tie.Need-returns-2
 returns-2 c = rw (begins-byte _ _ _ (c .before .before .before .before .pre .1), ← c .before .before .peek .ensures, ← c .two-at .ensures, eq-eqb _ _ (c .before .if1 .left))
 
 pub three-at-spec : {M : Type 1} → statement M
-three-at-spec = tie.close (tie.spec peek-requires returns add-two-at two-at-requires returns-2)
+three-at-spec = tie.close (tie.spec
+    (λ c κs. search needs) returns (λ c. search needs) two-at-requires returns-2)

@@ -6,20 +6,12 @@ use Rattle.conditions.proofs.Signs.{begins-byte, one-byte}
 use Rattle.conditions.proofs.two_at.Statement.{statement}
 use Rattle.conditions.proofs.two_at.Tie as tie
 
-peek-requires : tie.Need-peek-requires
-peek-requires c κs = search needs
-
 returns : tie.Need-returns
 returns c = rw (begins-byte _ _ _ (c .before .before .before .pre .1), ← c .before .peek .ensures, ne-eqb _ _ (c .if1 .taken))
-
-add-peek : tie.Need-add-peek
-add-peek c = search needs
-
-peek-requires-2 : tie.Need-peek-requires-2
-peek-requires-2 c κs = search needs
 
 returns-2 : tie.Need-returns-2
 returns-2 c = rw (begins-byte _ _ _ (c .before .before .before .before .pre .1), one-byte _ _ _ (c .before .before .before .before .pre .2), ← c .before .before .peek .ensures, ← c .peek2 .ensures, eq-eqb _ _ (c .before .if1 .left))
 
 pub two-at-spec : {M : Type 1} → statement M
-two-at-spec = tie.close (tie.spec peek-requires returns add-peek peek-requires-2 returns-2)
+two-at-spec = tie.close (tie.spec
+    (λ c κs. search needs) returns (λ c. search needs) (λ c κs. search needs) returns-2)

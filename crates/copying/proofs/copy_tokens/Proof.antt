@@ -21,23 +21,14 @@ abbrev μ-loop : tie.MeasureT-loop
 loop-holds : tie.Need-loop-holds Inv-loop μ-loop
 loop-holds c = copied-none (c .before .before .before .pre)
 
-peek-requires : tie.Need-peek-requires Inv-loop μ-loop
-peek-requires c κs = search needs
-
 cast-place : tie.Need-cast-place Inv-loop μ-loop
 cast-place c = omega (arith, line-fits (c .before .before .loop .inv .copyable .reads))
 
 add-place : tie.Need-add-place Inv-loop μ-loop
 add-place c = omega (arith, line-fits (c .before .before .loop .inv .copyable .reads), c .before .before .loop .inv .copyable .reads .place-small)
 
-is-single-requires : tie.Need-is-single-requires Inv-loop μ-loop
-is-single-requires c κs = search needs
-
 write-one-requires : tie.Need-write-one-requires Inv-loop μ-loop
 write-one-requires c κs = byte-writable (c .before .before .before .before .before .before .loop .inv)
-
-enum-known-r : tie.Need-enum-known-r Inv-loop μ-loop
-enum-known-r c = search needs
 
 past-byte-requires : tie.Need-past-byte-requires Inv-loop μ-loop
 past-byte-requires c κs = (byte-small (c .before .before .before .before .before .before .before .before .before .before .before .before .before .before .loop .inv .copyable .reads) (c .before .before .before .before .before .before .before .before .before .before .before .before .before .peek .ensures) (c .before .before .before .before .before .before .before .before .before .before .before .is-single .ensures) (c .before .before .before .before .before .before .before .before .before .before .if1 .taken), line-fits (c .before .before .before .before .before .before .before .before .before .before .before .before .before .before .loop .inv .copyable .reads))
@@ -51,9 +42,6 @@ loop-less c = moves-less (moved c)
 loop-again : tie.Need-loop-again Inv-loop μ-loop
 loop-again c = copied-byte (c .before .before .before .before .before .before .before .before .before .before .before .before .before .before .before .loop .inv) (c .before .before .before .before .before .before .before .before .before .before .before .before .before .before .peek .ensures) (c .before .before .before .before .before .before .before .before .before .before .before .before .is-single .ensures) (c .before .before .before .before .before .before .before .before .before .before .before .if1 .taken) (c .before .before .before .before .before .before .before .before .write-one .ensures) (c .before .before .r .given .1) (moved c)
 
-enum-known-r-2 : tie.Need-enum-known-r-2 Inv-loop μ-loop
-enum-known-r-2 c = search needs
-
 same-length : tie.Need-same-length Inv-loop μ-loop
 same-length c = c .before .before .before .before .before .before .before .write-one .kept .1 .1 .0 ∙ puts-text (c .before .before .before .before .before .before .before .before .before .before .before .before .before .before .loop .inv .puts)
 
@@ -62,15 +50,6 @@ same-length-2 c = c .before .before .before .before .before .before .before .wri
 
 returns : tie.Need-returns Inv-loop μ-loop
 returns c = full-byte (c .before .before .before .before .before .before .before .before .before .before .before .before .before .before .loop .inv) (c .before .before .before .before .before .before .before .before .before .before .before .before .before .peek .ensures) (c .before .before .before .before .before .before .before .before .before .before .before .is-single .ensures) (c .before .before .before .before .before .before .before .before .before .before .if1 .taken) (c .before .before .before .before .before .before .before .write-one .ensures) (c .before .r2 .given .1)
-
-in-file-requires : tie.Need-in-file-requires Inv-loop μ-loop
-in-file-requires c κs = search needs
-
-token-at-requires : tie.Need-token-at-requires Inv-loop μ-loop
-token-at-requires c κs = search needs
-
-stops-requires : tie.Need-stops-requires Inv-loop μ-loop
-stops-requires c κs = search needs
 
 same-length-3 : tie.Need-same-length-3 Inv-loop μ-loop
 same-length-3 c = puts-text (c .before .before .before .before .before .before .before .before .loop .inv .puts)
@@ -81,14 +60,8 @@ same-length-4 c = puts-map (c .before .before .before .before .before .before .b
 returns-2 : tie.Need-returns-2 Inv-loop μ-loop
 returns-2 c = copied-upto (c .before .before .before .before .before .before .before .before .loop .inv) (c .before .before .before .in-file .ensures) (c .before .before .token-at .ensures) (c .before .stops .ensures) (c .if2 .taken)
 
-part-of-requires : tie.Need-part-of-requires Inv-loop μ-loop
-part-of-requires c κs = search needs
-
 write-token-requires : tie.Need-write-token-requires Inv-loop μ-loop
 write-token-requires c κs = token-writable (c .before .before .before .before .before .before .before .before .before .before .before .loop .inv) (c .before .before .before .before .before .before .in-file .ensures) (c .before .before .before .before .before .token-at .ensures) (c .before .before .before .before .stops .ensures) (c .before .before .before .if2 .left) (c .before .before .part-of .ensures)
-
-enum-known-r-3 : tie.Need-enum-known-r-3 Inv-loop μ-loop
-enum-known-r-3 c = search needs
 
 past-token-requires : tie.Need-past-token-requires Inv-loop μ-loop
 past-token-requires c κs = (line-fits (c .before .before .before .before .before .before .before .before .before .before .before .before .before .before .before .before .before .before .before .loop .inv .copyable .reads), part-small (c .before .before .before .before .before .before .before .before .before .before .before .before .before .before .before .before .before .before .before .loop .inv .copyable .reads) _ (c .before .before .before .before .before .before .before .before .before .before .part-of .ensures))
@@ -101,9 +74,6 @@ loop-less-2 c = moves-less (moved-2 c)
 
 loop-again-2 : tie.Need-loop-again-2 Inv-loop μ-loop
 loop-again-2 c = copied-token (c .before .before .before .before .before .before .before .before .before .before .before .before .before .before .before .before .before .before .before .before .loop .inv) (c .before .before .before .before .before .before .before .before .before .before .before .before .before .before .before .in-file .ensures) (c .before .before .before .before .before .before .before .before .before .before .before .before .before .before .token-at .ensures) (c .before .before .before .before .before .before .before .before .before .before .before .before .before .stops .ensures) (c .before .before .before .before .before .before .before .before .before .before .before .before .if2 .left) (c .before .before .before .before .before .before .before .before .before .before .before .part-of .ensures) (c .before .before .before .before .before .before .before .before .write-token .ensures) (c .before .before .r3 .given .1) (moved-2 c)
-
-enum-known-r-4 : tie.Need-enum-known-r-4 Inv-loop μ-loop
-enum-known-r-4 c = search needs
 
 same-length-5 : tie.Need-same-length-5 Inv-loop μ-loop
 same-length-5 c = c .before .before .before .before .before .before .before .write-token .kept .1 .1 .1 .0 ∙ puts-text (c .before .before .before .before .before .before .before .before .before .before .before .before .before .before .before .before .before .before .before .loop .inv .puts)
@@ -118,35 +88,8 @@ pub copy-tokens-spec : {M : Type 1} → statement M
 copy-tokens-spec =
     tie.close
     (tie.spec
-    Inv-loop
-    μ-loop
-    loop-holds
-    peek-requires
-    cast-place
-    add-place
-    is-single-requires
-    write-one-requires
-    enum-known-r
-    past-byte-requires
-    loop-less
-    loop-again
-    enum-known-r-2
-    same-length
-    same-length-2
-    returns
-    in-file-requires
-    token-at-requires
-    stops-requires
-    same-length-3
-    same-length-4
-    returns-2
-    part-of-requires
-    write-token-requires
-    enum-known-r-3
-    past-token-requires
-    loop-less-2
-    loop-again-2
-    enum-known-r-4
-    same-length-5
-    same-length-6
-    returns-3)
+    Inv-loop μ-loop loop-holds (λ c κs. search needs) cast-place add-place (λ c κs. search needs)
+    write-one-requires (λ c. search needs) past-byte-requires loop-less loop-again (λ c. search needs) same-length
+    same-length-2 returns (λ c κs. search needs) (λ c κs. search needs) (λ c κs. search needs) same-length-3
+    same-length-4 returns-2 (λ c κs. search needs) write-token-requires (λ c. search needs) past-token-requires
+    loop-less-2 loop-again-2 (λ c. search needs) same-length-5 same-length-6 returns-3)

@@ -4,11 +4,9 @@ use borrow.Author.Needs.{needs}
 use Rattle.copying.proofs.past_plain.Statement.{statement}
 use Rattle.copying.proofs.past_plain.Tie as tie
 
-is-gap-requires : tie.Need-is-gap-requires
-is-gap-requires c κs = search needs
-
 returns : tie.Need-returns
 returns c = rw (c .before .before .before .is-gap .ensures)
 
 pub past-plain-spec : {M : Type 1} → statement M
-past-plain-spec = tie.close (tie.spec is-gap-requires returns)
+past-plain-spec = tie.close (tie.spec
+    (λ c κs. search needs) returns)

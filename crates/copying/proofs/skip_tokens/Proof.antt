@@ -17,12 +17,6 @@ abbrev μ-loop : tie.MeasureT-loop
 loop-holds : tie.Need-loop-holds Inv-loop μ-loop
 loop-holds c = gone-none (c .before .pre)
 
-peek-requires : tie.Need-peek-requires Inv-loop μ-loop
-peek-requires c κs = search needs
-
-is-single-requires : tie.Need-is-single-requires Inv-loop μ-loop
-is-single-requires c κs = search needs
-
 past-byte-requires : tie.Need-past-byte-requires Inv-loop μ-loop
 past-byte-requires c κs = (byte-small (c .before .before .before .loop .inv .reads) (c .before .before .peek .ensures) (c .before .is-single .ensures) (c .if1 .taken), line-fits (c .before .before .before .loop .inv .reads))
 
@@ -35,20 +29,8 @@ loop-less c = moves-less (moved c)
 loop-again : tie.Need-loop-again Inv-loop μ-loop
 loop-again c = gone-next (c .before .before .before .before .loop .inv) (moved c)
 
-in-file-requires : tie.Need-in-file-requires Inv-loop μ-loop
-in-file-requires c κs = search needs
-
-token-at-requires : tie.Need-token-at-requires Inv-loop μ-loop
-token-at-requires c κs = search needs
-
-stops-requires : tie.Need-stops-requires Inv-loop μ-loop
-stops-requires c κs = search needs
-
 returns : tie.Need-returns Inv-loop μ-loop
 returns c = gone-upto (c .before .before .before .before .before .before .before .loop .inv) (c .before .before .before .in-file .ensures) (c .before .before .token-at .ensures) (c .before .stops .ensures) (c .if2 .taken)
-
-part-of-requires : tie.Need-part-of-requires Inv-loop μ-loop
-part-of-requires c κs = search needs
 
 past-token-requires : tie.Need-past-token-requires Inv-loop μ-loop
 past-token-requires c κs = (line-fits (c .before .before .before .before .before .before .before .before .loop .inv .reads), part-small (c .before .before .before .before .before .before .before .before .loop .inv .reads) _ (c .part-of .ensures))
@@ -66,19 +48,6 @@ pub skip-tokens-spec : {M : Type 1} → statement M
 skip-tokens-spec =
     tie.close
     (tie.spec
-    Inv-loop
-    μ-loop
-    loop-holds
-    peek-requires
-    is-single-requires
-    past-byte-requires
-    loop-less
-    loop-again
-    in-file-requires
-    token-at-requires
-    stops-requires
-    returns
-    part-of-requires
-    past-token-requires
-    loop-less-2
-    loop-again-2)
+    Inv-loop μ-loop loop-holds (λ c κs. search needs) (λ c κs. search needs) past-byte-requires loop-less
+    loop-again (λ c κs. search needs) (λ c κs. search needs) (λ c κs. search needs) returns (λ c κs. search needs)
+    past-token-requires loop-less-2 loop-again-2)

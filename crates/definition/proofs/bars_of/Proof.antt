@@ -6,9 +6,6 @@ use borrow.Author.Needs.{needs}
 use Rattle.definition.proofs.bars_of.Statement.{statement}
 use Rattle.definition.proofs.bars_of.Tie as tie
 
-least-requires : tie.Need-least-requires
-least-requires c κs = search needs
-
 returns : tie.Need-returns
 unfolding barsOf
 returns c = simp (lt-ltb _ _ (c .before .if1 .taken)) (c .least .ensures)
@@ -18,4 +15,5 @@ unfolding barsOf
 returns-2 c = simp (le-ltb _ _ (c .if1 .left))
 
 pub bars-of-spec : {M : Type 1} → statement M
-bars-of-spec = tie.close (tie.spec least-requires returns returns-2)
+bars-of-spec = tie.close (tie.spec
+    (λ c κs. search needs) returns returns-2)

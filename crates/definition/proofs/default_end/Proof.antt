@@ -19,12 +19,6 @@ abbrev μ-loop : tie.MeasureT-loop
 loop-holds : tie.Need-loop-holds Inv-loop μ-loop
 loop-holds c = due-first _ _ _
 
-in-definition-requires : tie.Need-in-definition-requires Inv-loop μ-loop
-in-definition-requires c κs = search needs
-
-token-at-requires : tie.Need-token-at-requires Inv-loop μ-loop
-token-at-requires c κs = search needs
-
 same-length : tie.Need-same-length Inv-loop μ-loop
 same-length c = c .before .before .before .before .before .loop .inv .same
 
@@ -34,17 +28,11 @@ returns c = due-newline (c .before .before .before .before .before .loop .inv) _
 step-at-requires : tie.Need-step-at-requires Inv-loop μ-loop
 step-at-requires c κs = c .before .before .before .before .before .before .loop .inv .fits
 
-enum-known-r : tie.Need-enum-known-r Inv-loop μ-loop
-enum-known-r c = search needs
-
 loop-less : tie.Need-loop-less Inv-loop μ-loop
 loop-less c = omega (arith, token-past _ _ _ _ (c .before .before .before .before .before .before .before .before .before .token-at .ensures) (c .before .before .before .before .before .before .before .before .before .before .before .loop-test .taken))
 
 loop-again : tie.Need-loop-again Inv-loop μ-loop
 loop-again c = due-next (c .before .before .before .before .before .before .before .before .before .before .before .before .loop .inv) _ _ (c .before .before .before .before .before .before .before .before .before .before .before .loop-test .taken) (c .before .before .before .before .before .before .before .before .before .before .in-definition .ensures) (c .before .before .before .before .before .before .before .before .before .token-at .ensures) (c .before .before .before .before .before .before .before .if1 .left) (c .before .before .before .before .before .step-at .result) (c .before .before .before .before .before .step-at .last .1 .1 .0) (c .before .before .before .before .before .step-at .ensures) _ (c .before .r .given .1) (c .before .before .before .before .before .step-at .kept .1 .1 .0)
-
-enum-told : tie.Need-enum-told Inv-loop μ-loop
-enum-told c = search needs
 
 same-length-2 : tie.Need-same-length-2 Inv-loop μ-loop
 same-length-2 c = c .before .before .before .before .step-at .kept .1 .1 .0 ∙ c .before .before .before .before .before .before .before .before .before .before .before .loop .inv .same
@@ -52,17 +40,11 @@ same-length-2 c = c .before .before .before .before .step-at .kept .1 .1 .0 ∙ 
 returns-2 : tie.Need-returns-2 Inv-loop μ-loop
 returns-2 c = due-done (c .before .before .before .before .before .before .before .before .before .before .before .loop .inv) _ _ (c .before .before .before .before .before .before .before .before .before .before .loop-test .taken) (c .before .before .before .before .before .before .before .before .before .in-definition .ensures) (c .before .before .before .before .before .before .before .before .token-at .ensures) (c .before .before .before .before .before .before .if1 .left) (c .before .before .before .before .step-at .result) (c .before .before .before .before .step-at .last .1 .1 .0) (c .before .before .before .before .step-at .ensures) (c .enum-told .given .1)
 
-enum-told-2 : tie.Need-enum-told-2 Inv-loop μ-loop
-enum-told-2 c = search needs
-
 same-length-3 : tie.Need-same-length-3 Inv-loop μ-loop
 same-length-3 c = c .before .before .before .before .step-at .kept .1 .1 .0 ∙ c .before .before .before .before .before .before .before .before .before .before .before .loop .inv .same
 
 returns-3 : tie.Need-returns-3 Inv-loop μ-loop
 returns-3 c = due-torn (c .before .before .before .before .before .before .before .before .before .before .before .loop .inv) _ _ (c .before .before .before .before .before .before .before .before .before .before .loop-test .taken) (c .before .before .before .before .before .before .before .before .before .in-definition .ensures) (c .before .before .before .before .before .before .before .before .token-at .ensures) (c .before .before .before .before .before .before .if1 .left) (c .before .before .before .before .step-at .result) (c .before .before .before .before .step-at .last .1 .1 .0) (c .before .before .before .before .step-at .ensures) (c .enum-told2 .given .1)
-
-enum-told-3 : tie.Need-enum-told-3 Inv-loop μ-loop
-enum-told-3 c = search needs
 
 same-length-4 : tie.Need-same-length-4 Inv-loop μ-loop
 same-length-4 c = c .before .before .before .before .step-at .kept .1 .1 .0 ∙ c .before .before .before .before .before .before .before .before .before .before .before .loop .inv .same
@@ -80,25 +62,6 @@ pub default-end-spec : {M : Type 1} → statement M
 default-end-spec =
     tie.close
     (tie.spec
-    Inv-loop
-    μ-loop
-    loop-holds
-    in-definition-requires
-    token-at-requires
-    same-length
-    returns
-    step-at-requires
-    enum-known-r
-    loop-less
-    loop-again
-    enum-told
-    same-length-2
-    returns-2
-    enum-told-2
-    same-length-3
-    returns-3
-    enum-told-3
-    same-length-4
-    returns-4
-    same-length-5
-    returns-5)
+    Inv-loop μ-loop loop-holds (λ c κs. search needs) (λ c κs. search needs) same-length returns step-at-requires
+    (λ c. search needs) loop-less loop-again (λ c. search needs) same-length-2 returns-2 (λ c. search needs)
+    same-length-3 returns-3 (λ c. search needs) same-length-4 returns-4 same-length-5 returns-5)

@@ -12,20 +12,8 @@ use Rattle.definition.proofs.default_verdict.Tie as tie
 returns : tie.Need-returns
 returns c = settled-good _ (plain-formal _ _ (not-true _ (c .if1 .taken)))
 
-has-grave-requires : tie.Need-has-grave-requires
-has-grave-requires c κs = search needs
-
 returns-2 : tie.Need-returns-2
 returns-2 c = settled-bad _ (grave-formal _ _ (not-false _ (c .before .before .if1 .left)) _ (c .before .has-grave .ensures) (c .if2 .taken))
-
-judge-stored-requires : tie.Need-judge-stored-requires
-judge-stored-requires c κs = search needs
-
-same-length : tie.Need-same-length
-same-length c = search needs
-
-same-length-2 : tie.Need-same-length-2
-same-length-2 c = search needs
 
 returns-3 : tie.Need-returns-3
 returns-3 c = settled-as (ap verdictOf (sym (stored-formal _ _ (not-false _ (c .before .before .before .before .before .before .before .before .before .if1 .left)) _ (c .before .before .before .before .before .before .before .before .has-grave .ensures) (c .before .before .before .before .before .before .before .if2 .left)))) (settled-judged _ (c .before .before .before .before .judge-stored .ensures))
@@ -34,10 +22,5 @@ pub default-verdict-spec : {M : Type 1} → statement M
 default-verdict-spec =
     tie.close
     (tie.spec
-    returns
-    has-grave-requires
-    returns-2
-    judge-stored-requires
-    same-length
-    same-length-2
+    returns (λ c κs. search needs) returns-2 (λ c κs. search needs) (λ c. search needs) (λ c. search needs)
     returns-3)

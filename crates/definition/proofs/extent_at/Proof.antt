@@ -18,36 +18,12 @@ Inv-loop s at i₀ marks₀ bars₀ mark₀ i marks bars mark = extentIn i bars 
 abbrev μ-loop : tie.MeasureT-loop
 μ-loop s at i₀ marks₀ bars₀ mark₀ i marks bars mark = length s - i
 
-no-fault-requires : tie.Need-no-fault-requires Inv-loop μ-loop
-no-fault-requires c κs = search needs
-
-no-fault-requires-2 : tie.Need-no-fault-requires-2 Inv-loop μ-loop
-no-fault-requires-2 c κs = search needs
-
 loop-holds : tie.Need-loop-holds Inv-loop μ-loop
 unfolding extentAt
 loop-holds c = rw (c .before .no-fault .ensures, c .no-fault2 .ensures)
 
-in-definition-requires : tie.Need-in-definition-requires Inv-loop μ-loop
-in-definition-requires c κs = search needs
-
-token-at-requires : tie.Need-token-at-requires Inv-loop μ-loop
-token-at-requires c κs = search needs
-
 returns : tie.Need-returns Inv-loop μ-loop
 returns c = sym (extent-newline _ _ _ _ _ (c .before .before .before .before .loop-test .taken) (c .before .before .before .in-definition .ensures) (c .before .before .token-at .ensures) _ _ (c .if1 .taken)) ∙ c .before .before .before .before .before .loop .inv
-
-fault-of-requires : tie.Need-fault-of-requires Inv-loop μ-loop
-fault-of-requires c κs = search needs
-
-worse-requires : tie.Need-worse-requires Inv-loop μ-loop
-worse-requires c κs = search needs
-
-mark-of-requires : tie.Need-mark-of-requires Inv-loop μ-loop
-mark-of-requires c κs = search needs
-
-marks-after-requires : tie.Need-marks-after-requires Inv-loop μ-loop
-marks-after-requires c κs = search needs
 
 loop-less : tie.Need-loop-less Inv-loop μ-loop
 loop-less c = omega (arith, token-past _ _ _ _ (c .before .before .before .before .before .before .token-at .ensures) (c .before .before .before .before .before .before .before .before .loop-test .taken))
@@ -62,18 +38,6 @@ pub extent-at-spec : {M : Type 1} → statement M
 extent-at-spec =
     tie.close
     (tie.spec
-    Inv-loop
-    μ-loop
-    no-fault-requires
-    no-fault-requires-2
-    loop-holds
-    in-definition-requires
-    token-at-requires
-    returns
-    fault-of-requires
-    worse-requires
-    mark-of-requires
-    marks-after-requires
-    loop-less
-    loop-again
-    returns-2)
+    Inv-loop μ-loop (λ c κs. search needs) (λ c κs. search needs) loop-holds (λ c κs. search needs)
+    (λ c κs. search needs) returns (λ c κs. search needs) (λ c κs. search needs) (λ c κs. search needs)
+    (λ c κs. search needs) loop-less loop-again returns-2)

@@ -22,17 +22,8 @@ abbrev μ-loop : tie.MeasureT-loop
 loop-holds : tie.Need-loop-holds Inv-loop μ-loop
 loop-holds c = (refl, scan-first)
 
-formal-at-requires : tie.Need-formal-at-requires Inv-loop μ-loop
-formal-at-requires c κs = search needs
-
-enum-known-r : tie.Need-enum-known-r Inv-loop μ-loop
-enum-known-r c = search needs
-
 formal-verdict-requires : tie.Need-formal-verdict-requires Inv-loop μ-loop
 formal-verdict-requires c κs = omega (arith, c .before .before .before .before .before .before .before .before .before .before .loop .inv .0, c .before .before .before .before .before .before .before .before .before .before .before .before .before .before .pre)
-
-enum-told : tie.Need-enum-told Inv-loop μ-loop
-enum-told c = search needs
 
 same-length : tie.Need-same-length Inv-loop μ-loop
 same-length c = omega (arith, c .before .before .before .before .before .before .before .before .before .before .before .before .before .before .before .before .before .before .loop .inv .0)
@@ -49,9 +40,6 @@ loop-less c = scan-less (c .before .before .before .before .before .before .befo
 loop-again : tie.Need-loop-again Inv-loop μ-loop
 loop-again c = (omega (arith, c .before .before .before .before .before .before .before .before .before .before .before .before .before .before .before .before .before .before .loop .inv .0), scan-next (c .before .before .before .before .before .before .before .before .before .before .before .before .before .before .before .before .before .before .loop .inv .1) (c .before .before .before .before .before .before .before .before .before .before .before .before .before .before .before .formal-at .ensures) (c .before .before .before .before .before .before .before .before .before .before .before .r .given .1) (λ gs e y. bad-past _ _ gs (told-good _ (c .before .before .before .before .before .before .before .formal-verdict .ensures gs e y) (c .before .enum-told .given .1))) (c .if1 .left) (omega arith))
 
-enum-told-2 : tie.Need-enum-told-2 Inv-loop μ-loop
-enum-told-2 c = search needs
-
 same-length-3 : tie.Need-same-length-3 Inv-loop μ-loop
 same-length-3 c = omega (arith, c .before .before .before .before .before .before .before .before .before .before .before .before .before .before .before .before .before .loop .inv .0)
 
@@ -60,9 +48,6 @@ same-length-4 c = omega (arith, c .before .before .before .before .before .befor
 
 returns-2 : tie.Need-returns-2 Inv-loop μ-loop
 returns-2 c fs e p = settled-bad _ (scan-said (c .before .before .before .before .before .before .before .before .before .before .before .before .before .before .before .before .before .loop .inv .1) (c .before .before .before .before .before .before .before .before .before .before .before .before .before .before .formal-at .ensures) (c .before .before .before .before .before .before .before .before .before .before .r .given .1) p true (λ gs y. bad-here _ _ gs (told-bad _ (c .before .before .before .before .before .before .formal-verdict .ensures gs e y) (c .enum-told2 .given .1))))
-
-enum-told-3 : tie.Need-enum-told-3 Inv-loop μ-loop
-enum-told-3 c = search needs
 
 same-length-5 : tie.Need-same-length-5 Inv-loop μ-loop
 same-length-5 c = omega (arith, c .before .before .before .before .before .before .before .before .before .before .before .before .before .before .before .before .before .loop .inv .0)
@@ -73,9 +58,6 @@ same-length-6 c = omega (arith, c .before .before .before .before .before .befor
 returns-3 : tie.Need-returns-3 Inv-loop μ-loop
 returns-3 c fs e p = let a = c .before .before .before .before .before .before .before .before .before .before .before .before .before .before .before .before .before .before .before .before .before .args in over refl (scan-over (c .before .before .before .before .before .before .before .before .before .before .before .before .before .before .before .before .before .loop .inv .1) (c .before .before .before .before .before .before .before .before .before .before .before .before .before .before .formal-at .ensures) (c .before .before .before .before .before .before .before .before .before .before .r .given .1) p (c .before .before .before .before .before .before .before .before .before .before .before .before .before .before .formal-at .last .1 .1 .0) (c .before .before .before .before .before .before .before .before .before .before .before .before .before .before .formal-at .kept .1 .1 .0) (λ gs y. told-short (badAmong (a .s .now) (c .before .before .before .before .before .before .before .before .before .before .r .given .0 .0) gs) (c .before .before .before .before .before .before .formal-verdict .ensures gs e y) (c .enum-told3 .given .1)))
 
-enum-told-4 : tie.Need-enum-told-4 Inv-loop μ-loop
-enum-told-4 c = search needs
-
 same-length-7 : tie.Need-same-length-7 Inv-loop μ-loop
 same-length-7 c = omega (arith, c .before .before .before .before .before .before .before .loop .inv .0)
 
@@ -84,9 +66,6 @@ same-length-8 c = omega (arith, c .before .before .before .before .before .befor
 
 returns-4 : tie.Need-returns-4 Inv-loop μ-loop
 returns-4 c fs e p = scan-torn (c .before .before .before .before .before .before .before .loop .inv .1) (c .before .before .before .before .formal-at .ensures) (c .enum-told4 .given .1) p
-
-enum-told-5 : tie.Need-enum-told-5 Inv-loop μ-loop
-enum-told-5 c = search needs
 
 same-length-9 : tie.Need-same-length-9 Inv-loop μ-loop
 same-length-9 c = omega (arith, c .before .before .before .before .before .before .before .loop .inv .0)
@@ -110,34 +89,8 @@ pub formals-verdict-spec : {M : Type 1} → statement M
 formals-verdict-spec =
     tie.close
     (tie.spec
-    Inv-loop
-    μ-loop
-    loop-holds
-    formal-at-requires
-    enum-known-r
-    formal-verdict-requires
-    enum-told
-    same-length
-    same-length-2
-    returns
-    loop-less
-    loop-again
-    enum-told-2
-    same-length-3
-    same-length-4
-    returns-2
-    enum-told-3
-    same-length-5
-    same-length-6
-    returns-3
-    enum-told-4
-    same-length-7
-    same-length-8
-    returns-4
-    enum-told-5
-    same-length-9
-    same-length-10
-    returns-5
-    same-length-11
-    same-length-12
-    returns-6)
+    Inv-loop μ-loop loop-holds (λ c κs. search needs) (λ c. search needs) formal-verdict-requires
+    (λ c. search needs) same-length same-length-2 returns loop-less loop-again (λ c. search needs) same-length-3
+    same-length-4 returns-2 (λ c. search needs) same-length-5 same-length-6 returns-3 (λ c. search needs)
+    same-length-7 same-length-8 returns-4 (λ c. search needs) same-length-9 same-length-10 returns-5 same-length-11
+    same-length-12 returns-6)

@@ -17,18 +17,6 @@ Inv-loop s at i₀ i = gapEnd s i ≡ gapEnd s at
 abbrev μ-loop : tie.MeasureT-loop
 μ-loop s at i₀ i = length s - i
 
-loop-holds : tie.Need-loop-holds Inv-loop μ-loop
-loop-holds c = refl
-
-in-definition-requires : tie.Need-in-definition-requires Inv-loop μ-loop
-in-definition-requires c κs = search needs
-
-token-at-requires : tie.Need-token-at-requires Inv-loop μ-loop
-token-at-requires c κs = search needs
-
-is-gap-requires : tie.Need-is-gap-requires Inv-loop μ-loop
-is-gap-requires c κs = search needs
-
 returns : tie.Need-returns Inv-loop μ-loop
 returns c = sym (gap-stop _ _ _ _ (c .before .before .before .before .loop-test .taken) (c .before .before .before .in-definition .ensures) (c .before .before .token-at .ensures) _ (c .before .is-gap .ensures) (c .if1 .taken)) ∙ c .before .before .before .before .before .loop .inv
 
@@ -45,13 +33,5 @@ pub gap-end-spec : {M : Type 1} → statement M
 gap-end-spec =
     tie.close
     (tie.spec
-    Inv-loop
-    μ-loop
-    loop-holds
-    in-definition-requires
-    token-at-requires
-    is-gap-requires
-    returns
-    loop-less
-    loop-again
-    returns-2)
+    Inv-loop μ-loop (λ c. refl) (λ c κs. search needs) (λ c κs. search needs) (λ c κs. search needs) returns
+    loop-less loop-again returns-2)

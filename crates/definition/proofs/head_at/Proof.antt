@@ -7,41 +7,17 @@ use borrow.Author.Needs.{needs}
 use Rattle.definition.proofs.head_at.Statement.{statement}
 use Rattle.definition.proofs.head_at.Tie as tie
 
-gap-end-requires : tie.Need-gap-end-requires
-gap-end-requires c κs = search needs
-
-in-definition-requires : tie.Need-in-definition-requires
-in-definition-requires c κs = search needs
-
-token-at-requires : tie.Need-token-at-requires
-token-at-requires c κs = search needs
-
 returns : tie.Need-returns
 returns c = sym (head-none _ _ _ _ _ (c .before .before .before .before .before .gap-end .ensures) (c .before .before .before .before .in-definition .ensures) (c .before .before .before .token-at .ensures) (c .if1 .taken))
 
 open-at-requires : tie.Need-open-at-requires
 open-at-requires c κs = head-inside _ _ _ _ _ (c .before .before .before .before .before .gap-end .ensures) (c .before .before .before .before .in-definition .ensures) (c .before .before .before .token-at .ensures) (c .if1 .left)
 
-in-definition-requires-2 : tie.Need-in-definition-requires-2
-in-definition-requires-2 c κs = search needs
-
-token-at-requires-2 : tie.Need-token-at-requires-2
-token-at-requires-2 c κs = search needs
-
-is-byte-requires : tie.Need-is-byte-requires
-is-byte-requires c κs = search needs
-
 add-make-head : tie.Need-add-make-head
 add-make-head c = let h = open-inside _ _ _ _ _ (c .before .before .before .before .before .before .before .before .before .before .gap-end .ensures) (c .before .before .before .before .before .before .before .before .before .in-definition .ensures) (c .before .before .before .before .before .before .before .before .token-at .ensures) (c .before .before .before .before .before .if1 .left) _ _ _ (c .before .before .before .before .open-at .ensures) (c .before .before .before .in-definition2 .ensures) (c .before .before .token-at2 .ensures) _ (c .before .is-byte .ensures) (c .if2 .taken) in omega arith
 
-make-head-requires : tie.Need-make-head-requires
-make-head-requires c κs = search needs
-
 returns-2 : tie.Need-returns-2
 returns-2 c = head-listed _ _ _ _ _ (c .before .before .before .before .before .before .before .before .before .before .before .gap-end .ensures) (c .before .before .before .before .before .before .before .before .before .before .in-definition .ensures) (c .before .before .before .before .before .before .before .before .before .token-at .ensures) (c .before .before .before .before .before .before .if1 .left) _ _ _ (c .before .before .before .before .before .open-at .ensures) (c .before .before .before .before .in-definition2 .ensures) (c .before .before .before .token-at2 .ensures) _ (c .before .before .is-byte .ensures) _ (c .before .if2 .taken) (c .make-head .ensures)
-
-make-head-requires-2 : tie.Need-make-head-requires-2
-make-head-requires-2 c κs = search needs
 
 returns-3 : tie.Need-returns-3
 returns-3 c = head-bare _ _ _ _ _ (c .before .before .before .before .before .before .before .before .before .before .before .gap-end .ensures) (c .before .before .before .before .before .before .before .before .before .before .in-definition .ensures) (c .before .before .before .before .before .before .before .before .before .token-at .ensures) (c .before .before .before .before .before .before .if1 .left) _ _ _ (c .before .before .before .before .before .open-at .ensures) (c .before .before .before .before .in-definition2 .ensures) (c .before .before .before .token-at2 .ensures) _ (c .before .before .is-byte .ensures) _ (c .before .if2 .left) (c .make-head2 .ensures)
@@ -50,16 +26,6 @@ pub head-at-spec : {M : Type 1} → statement M
 head-at-spec =
     tie.close
     (tie.spec
-    gap-end-requires
-    in-definition-requires
-    token-at-requires
-    returns
-    open-at-requires
-    in-definition-requires-2
-    token-at-requires-2
-    is-byte-requires
-    add-make-head
-    make-head-requires
-    returns-2
-    make-head-requires-2
-    returns-3)
+    (λ c κs. search needs) (λ c κs. search needs) (λ c κs. search needs) returns open-at-requires
+    (λ c κs. search needs) (λ c κs. search needs) (λ c κs. search needs) add-make-head (λ c κs. search needs)
+    returns-2 (λ c κs. search needs) returns-3)

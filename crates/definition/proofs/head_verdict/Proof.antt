@@ -11,18 +11,10 @@ use Rattle.definition.proofs.head_verdict.Tie as tie
 returns : tie.Need-returns
 returns c fs x p = let a = c .before .before .before .before .before .args in settled-good _ (bad-none (a .s .now) (unlisted-none (a .s .now) (a .h) p (not-true _ (c .if1 .taken))))
 
-formals-verdict-requires : tie.Need-formals-verdict-requires
-formals-verdict-requires c κs = search needs
-
-same-length : tie.Need-same-length
-same-length c = search needs
-
-same-length-2 : tie.Need-same-length-2
-same-length-2 c = search needs
-
 returns-2 : tie.Need-returns-2
 returns-2 c fs x p = let a = c .before .before .before .before .before .before .before .before .before .before .before .before .args in c .before .before .before .before .formals-verdict .ensures fs x (listed-formals (a .s .now) (a .h) p (not-false _ (c .before .before .before .before .before .before .before .if1 .left)))
 
 pub head-verdict-spec : {M : Type 1} → statement M
 head-verdict-spec =
-    tie.close (tie.spec returns formals-verdict-requires same-length same-length-2 returns-2)
+    tie.close (tie.spec
+    returns (λ c κs. search needs) (λ c. search needs) (λ c. search needs) returns-2)

@@ -18,12 +18,6 @@ abbrev μ-loop : tie.MeasureT-loop
 loop-holds : tie.Need-loop-holds Inv-loop μ-loop
 loop-holds c = counted-first _ _ _
 
-formal-at-requires : tie.Need-formal-at-requires Inv-loop μ-loop
-formal-at-requires c κs = search needs
-
-enum-known-r : tie.Need-enum-known-r Inv-loop μ-loop
-enum-known-r c = search needs
-
 add-n : tie.Need-add-n Inv-loop μ-loop
 add-n c = omega (arith, c .before .before .before .before .before .before .before .before .loop .inv .few)
 
@@ -39,17 +33,11 @@ loop-less c = let h = counted-goes (c .before .before .before .before .before .b
 loop-again : tie.Need-loop-again Inv-loop μ-loop
 loop-again c = counted-next (c .before .before .before .before .before .before .before .before .before .loop .inv) (c .before .before .before .before .before .before .formal-at .ensures) _ (c .before .before .r .given .1) (c .if1 .left) (c .before .before .before .before .before .before .formal-at .kept .1 .1 .0)
 
-enum-told : tie.Need-enum-told Inv-loop μ-loop
-enum-told c = search needs
-
 same-length-2 : tie.Need-same-length-2 Inv-loop μ-loop
 same-length-2 c = c .before .before .before .before .formal-at .kept .1 .1 .0 ∙ c .before .before .before .before .before .before .before .loop .inv .same
 
 returns-2 : tie.Need-returns-2 Inv-loop μ-loop
 returns-2 c = counted-ill (c .before .before .before .before .before .before .before .loop .inv) (c .before .before .before .before .formal-at .ensures) (c .enum-told .given .1)
-
-enum-told-2 : tie.Need-enum-told-2 Inv-loop μ-loop
-enum-told-2 c = search needs
 
 same-length-3 : tie.Need-same-length-3 Inv-loop μ-loop
 same-length-3 c = c .before .before .before .before .formal-at .kept .1 .1 .0 ∙ c .before .before .before .before .before .before .before .loop .inv .same
@@ -67,21 +55,6 @@ pub list-at-spec : {M : Type 1} → statement M
 list-at-spec =
     tie.close
     (tie.spec
-    Inv-loop
-    μ-loop
-    loop-holds
-    formal-at-requires
-    enum-known-r
-    add-n
-    same-length
-    returns
-    loop-less
-    loop-again
-    enum-told
-    same-length-2
-    returns-2
-    enum-told-2
-    same-length-3
-    returns-3
-    same-length-4
-    returns-4)
+    Inv-loop μ-loop loop-holds (λ c κs. search needs) (λ c. search needs) add-n same-length returns loop-less
+    loop-again (λ c. search needs) same-length-2 returns-2 (λ c. search needs) same-length-3 returns-3
+    same-length-4 returns-4)

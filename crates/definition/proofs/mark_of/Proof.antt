@@ -11,11 +11,9 @@ returns c = simp (ne-eqb _ _ (c .if1 .taken))
 returns-2 : tie.Need-returns-2
 returns-2 c = simp (eq-eqb _ _ (c .before .before .before .before .if1 .left), c .if2 .taken)
 
-no-fault-requires : tie.Need-no-fault-requires
-no-fault-requires c κs = search needs
-
 returns-3 : tie.Need-returns-3
 returns-3 c = simp (eq-eqb _ _ (c .before .before .before .before .before .if1 .left), c .before .if2 .left) (c .no-fault .ensures)
 
 pub mark-of-spec : {M : Type 1} → statement M
-mark-of-spec = tie.close (tie.spec returns returns-2 no-fault-requires returns-3)
+mark-of-spec = tie.close (tie.spec
+    returns returns-2 (λ c κs. search needs) returns-3)

@@ -23,21 +23,6 @@ abbrev μ-loop : tie.MeasureT-loop
 loop-holds : tie.Need-loop-holds Inv-loop μ-loop
 loop-holds c = scan-first
 
-formal-at-requires : tie.Need-formal-at-requires Inv-loop μ-loop
-formal-at-requires c κs = search needs
-
-enum-known-r : tie.Need-enum-known-r Inv-loop μ-loop
-enum-known-r c = search needs
-
-part-of-requires : tie.Need-part-of-requires Inv-loop μ-loop
-part-of-requires c κs = search needs
-
-part-of-requires-2 : tie.Need-part-of-requires-2 Inv-loop μ-loop
-part-of-requires-2 c κs = search needs
-
-same-requires : tie.Need-same-requires Inv-loop μ-loop
-same-requires c κs = search needs
-
 same-length : tie.Need-same-length Inv-loop μ-loop
 same-length c = omega (arith, c .before .before .before .before .before .before .before .before .before .before .before .before .loop .inv .same-length)
 
@@ -56,17 +41,11 @@ loop-less c = scan-less (c .before .before .before .before .before .before .befo
 loop-again : tie.Need-loop-again Inv-loop μ-loop
 loop-again c = scan-next (c .before .before .before .before .before .before .before .before .before .before .before .before .before .loop .inv) (c .before .before .before .before .before .before .before .before .before .before .formal-at .ensures) (c .before .before .before .before .before .before .r .given .1) (λ gs e y. named-past _ _ _ (c .before .before .before .before .part-of .ensures) (c .before .before .before .part-of2 .ensures) _ (c .before .before .same .ensures) gs (c .before .if1 .left)) (c .if2 .left) (omega arith)
 
-enum-told : tie.Need-enum-told Inv-loop μ-loop
-enum-told c = search needs
-
 same-length-3 : tie.Need-same-length-3 Inv-loop μ-loop
 same-length-3 c = omega (arith, c .before .before .before .before .before .before .before .loop .inv .same-length)
 
 returns-3 : tie.Need-returns-3 Inv-loop μ-loop
 returns-3 c fs e p = scan-torn (c .before .before .before .before .before .before .before .loop .inv) (c .before .before .before .before .formal-at .ensures) (c .enum-told .given .1) p
-
-enum-told-2 : tie.Need-enum-told-2 Inv-loop μ-loop
-enum-told-2 c = search needs
 
 same-length-4 : tie.Need-same-length-4 Inv-loop μ-loop
 same-length-4 c = omega (arith, c .before .before .before .before .before .before .before .loop .inv .same-length)
@@ -84,25 +63,6 @@ pub named-later-spec : {M : Type 1} → statement M
 named-later-spec =
     tie.close
     (tie.spec
-    Inv-loop
-    μ-loop
-    loop-holds
-    formal-at-requires
-    enum-known-r
-    part-of-requires
-    part-of-requires-2
-    same-requires
-    same-length
-    returns
-    same-length-2
-    returns-2
-    loop-less
-    loop-again
-    enum-told
-    same-length-3
-    returns-3
-    enum-told-2
-    same-length-4
-    returns-4
-    same-length-5
-    returns-5)
+    Inv-loop μ-loop loop-holds (λ c κs. search needs) (λ c. search needs) (λ c κs. search needs)
+    (λ c κs. search needs) (λ c κs. search needs) same-length returns same-length-2 returns-2 loop-less loop-again
+    (λ c. search needs) same-length-3 returns-3 (λ c. search needs) same-length-4 returns-4 same-length-5 returns-5)

@@ -5,15 +5,6 @@ use borrow.Author.Needs.{needs}
 use Rattle.definition.proofs.open_at.Statement.{statement}
 use Rattle.definition.proofs.open_at.Tie as tie
 
-in-definition-requires : tie.Need-in-definition-requires
-in-definition-requires c κs = search needs
-
-token-at-requires : tie.Need-token-at-requires
-token-at-requires c κs = search needs
-
-add-result : tie.Need-add-result
-add-result c = search needs
-
 returns : tie.Need-returns
 unfolding openAt
 returns c = simp (← c .before .before .before .before .before .in-definition .ensures, ← c .before .before .before .before .token-at .ensures, c .before .if1 .taken)
@@ -24,4 +15,5 @@ returns-2 c = simp (← c .before .before .before .before .in-definition .ensure
 
 pub open-at-spec : {M : Type 1} → statement M
 open-at-spec =
-    tie.close (tie.spec in-definition-requires token-at-requires add-result returns returns-2)
+    tie.close (tie.spec
+    (λ c κs. search needs) (λ c κs. search needs) (λ c. search needs) returns returns-2)

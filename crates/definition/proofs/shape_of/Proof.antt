@@ -14,14 +14,9 @@ returns c = full (sym (ap listOf (shape-none (c .before .before .before .before 
 returns-2 : tie.Need-returns-2
 returns-2 c = full (sym (ap listOf (shape-bare (c .before .before .before .before .before .before .args .s .now) (c .before .before .before .before .before .before .args .h) (c .before .before .if1 .left) (c .if2 .taken))))
 
-list-at-requires : tie.Need-list-at-requires
-list-at-requires c κs = search needs
-
-same-length : tie.Need-same-length
-same-length c = search needs
-
 returns-3 : tie.Need-returns-3
 returns-3 c = settled-as (sym (ap listOf (shape-listed (c .before .before .before .before .before .before .before .before .before .before .args .s .now) (c .before .before .before .before .before .before .before .before .before .before .args .h) (c .before .before .before .before .before .before .if1 .left) (c .before .before .before .before .if2 .left)))) (c .before .before .list-at .ensures)
 
 pub shape-of-spec : {M : Type 1} → statement M
-shape-of-spec = tie.close (tie.spec returns returns-2 list-at-requires same-length returns-3)
+shape-of-spec = tie.close (tie.spec
+    returns returns-2 (λ c κs. search needs) (λ c. search needs) returns-3)

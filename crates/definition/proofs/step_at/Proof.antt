@@ -12,15 +12,6 @@ returns : tie.Need-returns
 unfolding stepAt
 returns c = (simp (eq-eqb _ _ (c .if1 .taken)), refl)
 
-peek-requires : tie.Need-peek-requires
-peek-requires c κs = search needs
-
-step-requires : tie.Need-step-requires
-step-requires c κs = search needs
-
-same-length : tie.Need-same-length
-same-length c = search needs
-
 returns-2 : tie.Need-returns-2
 unfolding stepAt
 returns-2 c = simp (ne-eqb _ _ (c .before .before .before .before .before .before .before .if1 .left), eq-eqb _ _ (c .before .before .before .before .before .if2 .taken), ← c .before .before .before .peek .ensures) (c .before .before .step .ensures)
@@ -31,4 +22,5 @@ returns-3 c = (simp (ne-eqb _ _ (c .before .before .if1 .left), ne-eqb _ _ (c .i
 
 pub step-at-spec : {M : Type 1} → statement M
 step-at-spec =
-    tie.close (tie.spec returns peek-requires step-requires same-length returns-2 returns-3)
+    tie.close (tie.spec
+    returns (λ c κs. search needs) (λ c κs. search needs) (λ c. search needs) returns-2 returns-3)

@@ -12,56 +12,17 @@ use Rattle.definition.proofs.Defining.{bad-name, bad-count, bad-formals
 use Rattle.definition.proofs.verdict_of.Statement.{statement}
 use Rattle.definition.proofs.verdict_of.Tie as tie
 
-part-of-requires : tie.Need-part-of-requires
-part-of-requires c κs = search needs
-
-directive-of-requires : tie.Need-directive-of-requires
-directive-of-requires c κs = search needs
-
 returns : tie.Need-returns
 returns c fs p q = let a = c .before .before .before .before .before .before .args in settled-bad _ (bad-name (a .s .now) (a .h) fs (a .text) (a .end) (c .before .before .part-of .ensures) (c .before .directive-of .ensures) (c .if1 .taken))
 
 returns-2 : tie.Need-returns-2
 returns-2 c fs p q = let a = c .before .before .before .before .before .before .before .args in settled-bad _ (bad-count (a .s .now) (a .h) fs (a .text) (a .end) (c .before .before .before .part-of .ensures) (c .before .before .directive-of .ensures) (c .before .if1 .left) q (c .if2 .taken))
 
-head-verdict-requires : tie.Need-head-verdict-requires
-head-verdict-requires c κs = search needs
-
-enum-told : tie.Need-enum-told
-enum-told c = search needs
-
-text-verdict-requires : tie.Need-text-verdict-requires
-text-verdict-requires c κs = search needs
-
-enum-told-2 : tie.Need-enum-told-2
-enum-told-2 c = search needs
-
-enum-told-3 : tie.Need-enum-told-3
-enum-told-3 c = search needs
-
-same-length : tie.Need-same-length
-same-length c = search needs
-
-same-length-2 : tie.Need-same-length-2
-same-length-2 c = search needs
-
 returns-3 : tie.Need-returns-3
 returns-3 c fs p q = let a = c .before .before .before .before .before .before .before .before .before .before .before .before .before .before .before .before .before .before .before .before .before .before .before .args in settled-as (ap verdictOf (bad-text (a .s .now) (a .h) fs (a .text) (a .end) (c .before .before .before .before .before .before .before .before .before .before .before .before .before .before .before .before .before .before .before .part-of .ensures) (c .before .before .before .before .before .before .before .before .before .before .before .before .before .before .before .before .before .before .directive-of .ensures) (c .before .before .before .before .before .before .before .before .before .before .before .before .before .before .before .before .before .if1 .left) q (c .before .before .before .before .before .before .before .before .before .before .before .before .before .before .before .before .if2 .left) (told-good _ (c .before .before .before .before .before .before .before .before .before .before .before .before .before .head-verdict .ensures fs (a .text) p) (c .before .before .before .before .before .before .before .enum-told .given .1)))) (settled-lent (omega arith) (c .before .before .before .before .text-verdict .ensures))
 
-same-length-3 : tie.Need-same-length-3
-same-length-3 c = search needs
-
-same-length-4 : tie.Need-same-length-4
-same-length-4 c = search needs
-
 returns-4 : tie.Need-returns-4
 returns-4 c fs p q = let a = c .before .before .before .before .before .before .before .before .before .before .before .before .before .before .before .before .args in settled-bad _ (bad-formals (a .s .now) (a .h) fs (a .text) (a .end) (c .before .before .before .before .before .before .before .before .before .before .before .before .part-of .ensures) (c .before .before .before .before .before .before .before .before .before .before .before .directive-of .ensures) (c .before .before .before .before .before .before .before .before .before .before .if1 .left) q (c .before .before .before .before .before .before .before .before .before .if2 .left) (told-bad _ (c .before .before .before .before .before .before .head-verdict .ensures fs (a .text) p) (c .enum-told2 .given .1)))
-
-same-length-5 : tie.Need-same-length-5
-same-length-5 c = search needs
-
-same-length-6 : tie.Need-same-length-6
-same-length-6 c = search needs
 
 returns-5 : tie.Need-returns-5
 returns-5 c fs p q = let a = c .before .before .before .before .before .before .before .before .before .before .before .before .before .before .before .before .args in over refl (told-short (badFormals (a .s .now) fs) (c .before .before .before .before .before .before .head-verdict .ensures fs (a .text) p) (c .enum-told3 .given .1))
@@ -70,21 +31,6 @@ pub verdict-of-spec : {M : Type 1} → statement M
 verdict-of-spec =
     tie.close
     (tie.spec
-    part-of-requires
-    directive-of-requires
-    returns
-    returns-2
-    head-verdict-requires
-    enum-told
-    text-verdict-requires
-    enum-told-2
-    enum-told-3
-    same-length
-    same-length-2
-    returns-3
-    same-length-3
-    same-length-4
-    returns-4
-    same-length-5
-    same-length-6
-    returns-5)
+    (λ c κs. search needs) (λ c κs. search needs) returns returns-2 (λ c κs. search needs) (λ c. search needs)
+    (λ c κs. search needs) (λ c. search needs) (λ c. search needs) (λ c. search needs) (λ c. search needs)
+    returns-3 (λ c. search needs) (λ c. search needs) returns-4 (λ c. search needs) (λ c. search needs) returns-5)

@@ -30,4 +30,5 @@ unfolding aloneValue
 returns-6 c = simp (ne-eqb _ _ (c .before .before .before .before .if1 .left), ne-eqb _ _ (c .before .before .before .if2 .left), ne-eqb _ _ (c .before .before .if3 .left), ne-eqb _ _ (c .before .if4 .left), ne-eqb _ _ (c .if5 .left))
 
 pub alone-value-spec : {M : Type 1} → statement M
-alone-value-spec = tie.close (tie.spec returns returns-2 returns-3 returns-4 returns-5 returns-6)
+alone-value-spec = tie.close (tie.spec
+    returns returns-2 returns-3 returns-4 returns-5 returns-6)

@@ -6,53 +6,29 @@ use Rattle.directive.specs.Forms.{formAt}
 use Rattle.directive.proofs.form_at.Statement.{statement}
 use Rattle.directive.proofs.form_at.Tie as tie
 
-name-form-requires : tie.Need-name-form-requires
-name-form-requires c κs = search needs
-
 returns : tie.Need-returns
 unfolding formAt
 returns c = simp (eq-eqb _ _ (c .before .if1 .taken)) (c .name-form .ensures)
-
-stands-alone-requires : tie.Need-stands-alone-requires
-stands-alone-requires c κs = search needs
-
-alone-value-requires : tie.Need-alone-value-requires
-alone-value-requires c κs = search needs
 
 returns-2 : tie.Need-returns-2
 unfolding formAt
 returns-2 c = simp (ne-eqb _ _ (c .before .before .before .if1 .left), ← c .before .before .stands-alone .ensures, c .before .if2 .taken, ← c .alone-value .ensures)
 
-include-form-requires : tie.Need-include-form-requires
-include-form-requires c κs = search needs
-
 returns-3 : tie.Need-returns-3
 unfolding formAt
 returns-3 c = simp (ne-eqb _ _ (c .before .before .before .before .if1 .left), ← c .before .before .before .stands-alone .ensures, c .before .before .if2 .left, eq-eqb _ _ (c .before .if3 .taken)) (c .include-form .ensures)
-
-timescale-form-requires : tie.Need-timescale-form-requires
-timescale-form-requires c κs = search needs
 
 returns-4 : tie.Need-returns-4
 unfolding formAt
 returns-4 c = simp (ne-eqb _ _ (c .before .before .before .before .before .if1 .left), ← c .before .before .before .before .stands-alone .ensures, c .before .before .before .if2 .left, ne-eqb _ _ (c .before .before .if3 .left), eq-eqb _ _ (c .before .if4 .taken)) (c .timescale-form .ensures)
 
-nettype-form-requires : tie.Need-nettype-form-requires
-nettype-form-requires c κs = search needs
-
 returns-5 : tie.Need-returns-5
 unfolding formAt
 returns-5 c = simp (ne-eqb _ _ (c .before .before .before .before .before .before .if1 .left), ← c .before .before .before .before .before .stands-alone .ensures, c .before .before .before .before .if2 .left, ne-eqb _ _ (c .before .before .before .if3 .left), ne-eqb _ _ (c .before .before .if4 .left), eq-eqb _ _ (c .before .if5 .taken)) (c .nettype-form .ensures)
 
-drive-form-requires : tie.Need-drive-form-requires
-drive-form-requires c κs = search needs
-
 returns-6 : tie.Need-returns-6
 unfolding formAt
 returns-6 c = simp (ne-eqb _ _ (c .before .before .before .before .before .before .before .if1 .left), ← c .before .before .before .before .before .before .stands-alone .ensures, c .before .before .before .before .before .if2 .left, ne-eqb _ _ (c .before .before .before .before .if3 .left), ne-eqb _ _ (c .before .before .before .if4 .left), ne-eqb _ _ (c .before .before .if5 .left), eq-eqb _ _ (c .before .if6 .taken)) (c .drive-form .ensures)
-
-version-form-requires : tie.Need-version-form-requires
-version-form-requires c κs = search needs
 
 returns-7 : tie.Need-returns-7
 unfolding formAt
@@ -66,19 +42,6 @@ pub form-at-spec : {M : Type 1} → statement M
 form-at-spec =
     tie.close
     (tie.spec
-    name-form-requires
-    returns
-    stands-alone-requires
-    alone-value-requires
-    returns-2
-    include-form-requires
-    returns-3
-    timescale-form-requires
-    returns-4
-    nettype-form-requires
-    returns-5
-    drive-form-requires
-    returns-6
-    version-form-requires
-    returns-7
-    returns-8)
+    (λ c κs. search needs) returns (λ c κs. search needs) (λ c κs. search needs) returns-2 (λ c κs. search needs)
+    returns-3 (λ c κs. search needs) returns-4 (λ c κs. search needs) returns-5 (λ c κs. search needs) returns-6
+    (λ c κs. search needs) returns-7 returns-8)

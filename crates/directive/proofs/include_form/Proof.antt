@@ -6,21 +6,9 @@ use Rattle.directive.specs.Forms.{includeForm}
 use Rattle.directive.proofs.include_form.Statement.{statement}
 use Rattle.directive.proofs.include_form.Tie as tie
 
-include-at-requires : tie.Need-include-at-requires
-include-at-requires c κs = search needs
-
 returns : tie.Need-returns
 unfolding includeForm
 returns c = simp (← c .before .before .before .include-at .ensures, ne-eqb _ _ (c .if1 .taken))
-
-enum-told : tie.Need-enum-told
-enum-told c = search needs
-
-enum-told-2 : tie.Need-enum-told-2
-enum-told-2 c = search needs
-
-enum-told-3 : tie.Need-enum-told-3
-enum-told-3 c = search needs
 
 returns-2 : tie.Need-returns-2
 unfolding includeForm
@@ -38,11 +26,5 @@ pub include-form-spec : {M : Type 1} → statement M
 include-form-spec =
     tie.close
     (tie.spec
-    include-at-requires
-    returns
-    enum-told
-    enum-told-2
-    enum-told-3
-    returns-2
-    returns-3
+    (λ c κs. search needs) returns (λ c. search needs) (λ c. search needs) (λ c. search needs) returns-2 returns-3
     returns-4)

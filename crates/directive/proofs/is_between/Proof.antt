@@ -4,14 +4,9 @@ use borrow.Author.Needs.{needs}
 use Rattle.directive.proofs.is_between.Statement.{statement}
 use Rattle.directive.proofs.is_between.Tie as tie
 
-is-gap-requires : tie.Need-is-gap-requires
-is-gap-requires c κs = search needs
-
-holds-in-requires : tie.Need-holds-in-requires
-holds-in-requires c κs = search needs
-
 returns : tie.Need-returns
 returns c = rw (c .before .before .is-gap .ensures, c .holds-in .ensures)
 
 pub is-between-spec : {M : Type 1} → statement M
-is-between-spec = tie.close (tie.spec is-gap-requires holds-in-requires returns)
+is-between-spec = tie.close (tie.spec
+    (λ c κs. search needs) (λ c κs. search needs) returns)

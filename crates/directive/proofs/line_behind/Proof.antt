@@ -22,32 +22,8 @@ loop-holds : tie.Need-loop-holds Inv-loop μ-loop
 unfolding behindAt
 loop-holds c = refl
 
-in-file-requires : tie.Need-in-file-requires Inv-loop μ-loop
-in-file-requires c κs = search needs
-
-token-at-requires : tie.Need-token-at-requires Inv-loop μ-loop
-token-at-requires c κs = search needs
-
-make-line-requires : tie.Need-make-line-requires Inv-loop μ-loop
-make-line-requires c κs = search needs
-
 returns : tie.Need-returns Inv-loop μ-loop
 returns c = c .make-line .ensures ∙ sym (behind-newline _ _ _ _ _ _ _ _ (c .before .before .before .before .before .loop-test .taken) (c .before .before .before .before .in-file .ensures) (c .before .before .before .token-at .ensures) (c .before .if1 .taken)) ∙ c .before .before .before .before .before .before .loop .inv
-
-fault-of-requires : tie.Need-fault-of-requires Inv-loop μ-loop
-fault-of-requires c κs = search needs
-
-worse-requires : tie.Need-worse-requires Inv-loop μ-loop
-worse-requires c κs = search needs
-
-is-gap-requires : tie.Need-is-gap-requires Inv-loop μ-loop
-is-gap-requires c κs = search needs
-
-holds-in-requires : tie.Need-holds-in-requires Inv-loop μ-loop
-holds-in-requires c κs = search needs
-
-make-line-requires-2 : tie.Need-make-line-requires-2 Inv-loop μ-loop
-make-line-requires-2 c κs = search needs
 
 returns-2 : tie.Need-returns-2 Inv-loop μ-loop
 returns-2 c = c .make-line2 .ensures ∙ sym (behind-wrapped _ _ _ _ _ _ _ _ (c .before .before .before .before .before .before .before .before .before .before .loop-test .taken) (c .before .before .before .before .before .before .before .before .before .in-file .ensures) (c .before .before .before .before .before .before .before .before .token-at .ensures) (c .before .before .before .before .before .before .if1 .left) _ _ (c .before .before .before .before .before .fault-of .ensures) (c .before .before .before .before .worse .ensures) _ (c .before .before .before .is-gap .ensures) _ (c .before .before .holds-in .ensures) (c .before .if2 .taken)) ∙ c .before .before .before .before .before .before .before .before .before .before .before .loop .inv
@@ -58,9 +34,6 @@ loop-less c = omega (arith, token-goes _ _ _ _ (c .before .before .before .befor
 loop-again : tie.Need-loop-again Inv-loop μ-loop
 loop-again c = sym (behind-on _ _ _ _ _ _ _ _ (c .before .before .before .before .before .before .before .before .before .loop-test .taken) (c .before .before .before .before .before .before .before .before .in-file .ensures) (c .before .before .before .before .before .before .before .token-at .ensures) (c .before .before .before .before .before .if1 .left) _ _ (c .before .before .before .before .fault-of .ensures) (c .before .before .before .worse .ensures) _ (c .before .before .is-gap .ensures) _ (c .before .holds-in .ensures) (c .if2 .left)) ∙ c .before .before .before .before .before .before .before .before .before .before .loop .inv
 
-make-line-requires-3 : tie.Need-make-line-requires-3 Inv-loop μ-loop
-make-line-requires-3 c κs = search needs
-
 returns-3 : tie.Need-returns-3 Inv-loop μ-loop
 returns-3 c = c .make-line3 .ensures ∙ sym (behind-out _ _ _ _ _ _ (c .before .loop-test .left)) ∙ c .before .before .loop .inv
 
@@ -68,20 +41,6 @@ pub line-behind-spec : {M : Type 1} → statement M
 line-behind-spec =
     tie.close
     (tie.spec
-    Inv-loop
-    μ-loop
-    loop-holds
-    in-file-requires
-    token-at-requires
-    make-line-requires
-    returns
-    fault-of-requires
-    worse-requires
-    is-gap-requires
-    holds-in-requires
-    make-line-requires-2
-    returns-2
-    loop-less
-    loop-again
-    make-line-requires-3
-    returns-3)
+    Inv-loop μ-loop loop-holds (λ c κs. search needs) (λ c κs. search needs) (λ c κs. search needs) returns
+    (λ c κs. search needs) (λ c κs. search needs) (λ c κs. search needs) (λ c κs. search needs)
+    (λ c κs. search needs) returns-2 loop-less loop-again (λ c κs. search needs) returns-3)

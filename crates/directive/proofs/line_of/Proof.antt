@@ -10,59 +10,20 @@ use Rattle.directive.proofs.Including.{raw-inside}
 use Rattle.directive.proofs.line_of.Statement.{statement}
 use Rattle.directive.proofs.line_of.Tie as tie
 
-is-byte-requires : tie.Need-is-byte-requires
-is-byte-requires c κs = search needs
-
-scan-raw-requires : tie.Need-scan-raw-requires
-scan-raw-requires c κs = search needs
-
-enum-known-raw : tie.Need-enum-known-raw
-enum-known-raw c = search needs
-
 add-line-behind : tie.Need-add-line-behind
 add-line-behind c = omega (arith, raw-inside _ _ _ _ (sym (c .before .before .before .scan-raw .ensures) ∙ c .before .raw .given .1) (c .before .before .before .before .before .before .before .pre .1))
-
-worse-requires : tie.Need-worse-requires
-worse-requires c κs = search needs
-
-line-behind-requires : tie.Need-line-behind-requires
-line-behind-requires c κs = search needs
 
 returns : tie.Need-returns
 unfolding nameAt
 returns c = simp (← c .before .before .before .before .before .before .before .is-byte .ensures, c .before .before .before .before .before .before .if1 .taken, ← c .before .before .before .before .before .scan-raw .ensures, c .before .before .before .raw .given .1, ← c .before .worse .ensures) (c .line-behind .ensures)
 
-enum-told : tie.Need-enum-told
-enum-told c = search needs
-
-line-behind-requires-2 : tie.Need-line-behind-requires-2
-line-behind-requires-2 c κs = search needs
-
 returns-2 : tie.Need-returns-2
 unfolding nameAt
 returns-2 c = simp (← c .before .before .before .before .before .is-byte .ensures, c .before .before .before .before .if1 .taken, ← c .before .before .before .scan-raw .ensures, c .before .enum-told .given .1) (c .line-behind2 .ensures)
 
-fault-of-requires : tie.Need-fault-of-requires
-fault-of-requires c κs = search needs
-
-worse-requires-2 : tie.Need-worse-requires-2
-worse-requires-2 c κs = search needs
-
-add-t16 : tie.Need-add-t16
-add-t16 c = search needs
-
-sub-t17 : tie.Need-sub-t17
-sub-t17 c = search needs
-
-line-behind-requires-3 : tie.Need-line-behind-requires-3
-line-behind-requires-3 c κs = search needs
-
 returns-3 : tie.Need-returns-3
 unfolding nameAt
 returns-3 c = simp (← c .before .before .before .before .before .before .before .before .is-byte .ensures, c .before .before .before .before .before .before .before .if1 .left, ← (c .before .before .before .before .before .worse2 .ensures ∙ ap (worseOf (c .before .before .before .before .before .before .before .before .before .before .args .f)) (c .before .before .before .before .before .before .fault-of .ensures)), eq-eqb _ _ (c .before .before .before .if2 .taken)) (c .line-behind3 .ensures)
-
-line-behind-requires-4 : tie.Need-line-behind-requires-4
-line-behind-requires-4 c κs = search needs
 
 returns-4 : tie.Need-returns-4
 unfolding nameAt
@@ -72,21 +33,7 @@ pub line-of-spec : {M : Type 1} → statement M
 line-of-spec =
     tie.close
     (tie.spec
-    is-byte-requires
-    scan-raw-requires
-    enum-known-raw
-    add-line-behind
-    worse-requires
-    line-behind-requires
-    returns
-    enum-told
-    line-behind-requires-2
-    returns-2
-    fault-of-requires
-    worse-requires-2
-    add-t16
-    sub-t17
-    line-behind-requires-3
-    returns-3
-    line-behind-requires-4
-    returns-4)
+    (λ c κs. search needs) (λ c κs. search needs) (λ c. search needs) add-line-behind (λ c κs. search needs)
+    (λ c κs. search needs) returns (λ c. search needs) (λ c κs. search needs) returns-2 (λ c κs. search needs)
+    (λ c κs. search needs) (λ c. search needs) (λ c. search needs) (λ c κs. search needs) returns-3
+    (λ c κs. search needs) returns-4)

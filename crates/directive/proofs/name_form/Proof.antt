@@ -5,21 +5,9 @@ use Rattle.directive.specs.Forms.{nameForm}
 use Rattle.directive.proofs.name_form.Statement.{statement}
 use Rattle.directive.proofs.name_form.Tie as tie
 
-word-at-requires : tie.Need-word-at-requires
-word-at-requires c κs = search needs
-
-enum-known-w : tie.Need-enum-known-w
-enum-known-w c = search needs
-
 returns : tie.Need-returns
 unfolding nameForm
 returns c = simp (← c .before .before .before .before .before .before .word-at .ensures, c .before .before .before .before .w .given .1, c .if1 .taken)
-
-enum-told : tie.Need-enum-told
-enum-told c = search needs
-
-enum-known-w-2 : tie.Need-enum-known-w-2
-enum-known-w-2 c = search needs
 
 returns-2 : tie.Need-returns-2
 unfolding nameForm
@@ -37,11 +25,5 @@ pub name-form-spec : {M : Type 1} → statement M
 name-form-spec =
     tie.close
     (tie.spec
-    word-at-requires
-    enum-known-w
-    returns
-    enum-told
-    enum-known-w-2
-    returns-2
-    returns-3
+    (λ c κs. search needs) (λ c. search needs) returns (λ c. search needs) (λ c. search needs) returns-2 returns-3
     returns-4)

@@ -7,9 +7,6 @@ use Rattle.directive.proofs.Timing.{unit-small}
 use Rattle.directive.proofs.power.Statement.{statement}
 use Rattle.directive.proofs.power.Tie as tie
 
-unit-of-requires : tie.Need-unit-of-requires
-unit-of-requires c κs = search needs
-
 returns : tie.Need-returns
 returns c = simp (← c .before .unit-of .ensures, eq-eqb _ _ (c .if1 .taken))
 
@@ -20,4 +17,5 @@ returns-2 : tie.Need-returns-2
 returns-2 c = simp (← c .before .unit-of .ensures, ne-eqb _ _ (c .if1 .left))
 
 pub power-spec : {M : Type 1} → statement M
-power-spec = tie.close (tie.spec unit-of-requires returns add-t6 returns-2)
+power-spec = tie.close (tie.spec
+    (λ c κs. search needs) returns add-t6 returns-2)

@@ -6,21 +6,9 @@ use Rattle.directive.specs.Forms.{precisionForm}
 use Rattle.directive.proofs.precision_form.Statement.{statement}
 use Rattle.directive.proofs.precision_form.Tie as tie
 
-time-at-requires : tie.Need-time-at-requires
-time-at-requires c κs = search needs
-
-enum-known-time : tie.Need-enum-known-time
-enum-known-time c = search needs
-
 returns : tie.Need-returns
 unfolding precisionForm
 returns c = simp (← c .before .before .before .before .time-at .ensures, c .before .before .time .given .1, lt-ltb _ _ (c .if1 .taken), lt-leb _ _ (c .if1 .taken))
-
-enum-told : tie.Need-enum-told
-enum-told c = search needs
-
-enum-known-time-2 : tie.Need-enum-known-time-2
-enum-known-time-2 c = search needs
 
 returns-2 : tie.Need-returns-2
 unfolding precisionForm
@@ -38,11 +26,5 @@ pub precision-form-spec : {M : Type 1} → statement M
 precision-form-spec =
     tie.close
     (tie.spec
-    time-at-requires
-    enum-known-time
-    returns
-    enum-told
-    enum-known-time-2
-    returns-2
-    returns-3
+    (λ c κs. search needs) (λ c. search needs) returns (λ c. search needs) (λ c. search needs) returns-2 returns-3
     returns-4)

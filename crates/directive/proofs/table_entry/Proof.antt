@@ -11,4 +11,5 @@ returns-2 : tie.Need-returns-2
 returns-2 c = simp (ne-eqb _ _ (c .if1 .left))
 
 pub table-entry-spec : {M : Type 1} → statement M
-table-entry-spec = tie.close (tie.spec returns returns-2)
+table-entry-spec = tie.close (tie.spec
+    returns returns-2)

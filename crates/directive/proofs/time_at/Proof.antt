@@ -7,20 +7,8 @@ use Rattle.directive.proofs.Wording.{found-inside}
 use Rattle.directive.proofs.time_at.Statement.{statement}
 use Rattle.directive.proofs.time_at.Tie as tie
 
-word-at-requires : tie.Need-word-at-requires
-word-at-requires c κs = search needs
-
-enum-known-w : tie.Need-enum-known-w
-enum-known-w c = search needs
-
 magnitude-of-requires : tie.Need-magnitude-of-requires
 magnitude-of-requires c κs = found-inside _ _ _ (sym (c .before .before .before .word-at .ensures) ∙ c .before .w .given .1)
-
-enum-told : tie.Need-enum-told
-enum-told c = search needs
-
-enum-known-w-2 : tie.Need-enum-known-w-2
-enum-known-w-2 c = search needs
 
 returns : tie.Need-returns
 unfolding timeAt
@@ -38,11 +26,5 @@ pub time-at-spec : {M : Type 1} → statement M
 time-at-spec =
     tie.close
     (tie.spec
-    word-at-requires
-    enum-known-w
-    magnitude-of-requires
-    enum-told
-    enum-known-w-2
-    returns
-    returns-2
-    returns-3)
+    (λ c κs. search needs) (λ c. search needs) magnitude-of-requires (λ c. search needs) (λ c. search needs)
+    returns returns-2 returns-3)

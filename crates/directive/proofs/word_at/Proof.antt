@@ -6,21 +6,9 @@ use Rattle.directive.specs.Words.{wordAt}
 use Rattle.directive.proofs.word_at.Statement.{statement}
 use Rattle.directive.proofs.word_at.Tie as tie
 
-word-start-requires : tie.Need-word-start-requires
-word-start-requires c κs = search needs
-
-in-file-requires : tie.Need-in-file-requires
-in-file-requires c κs = search needs
-
-token-at-requires : tie.Need-token-at-requires
-token-at-requires c κs = search needs
-
 returns : tie.Need-returns
 unfolding wordAt
 returns c = rw (← c .before .before .before .before .word-start .ensures, ← c .before .before .before .in-file .ensures, ← c .before .before .token-at .ensures, ne-eqb _ _ (c .if1 .taken))
-
-is-gap-requires : tie.Need-is-gap-requires
-is-gap-requires c κs = search needs
 
 returns-2 : tie.Need-returns-2
 unfolding wordAt
@@ -34,10 +22,5 @@ pub word-at-spec : {M : Type 1} → statement M
 word-at-spec =
     tie.close
     (tie.spec
-    word-start-requires
-    in-file-requires
-    token-at-requires
-    returns
-    is-gap-requires
-    returns-2
+    (λ c κs. search needs) (λ c κs. search needs) (λ c κs. search needs) returns (λ c κs. search needs) returns-2
     returns-3)

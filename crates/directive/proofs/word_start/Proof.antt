@@ -17,35 +17,11 @@ Inv-loop s at i₀ i = wordStart s i ≡ wordStart s at
 abbrev μ-loop : tie.MeasureT-loop
 μ-loop s at i₀ i = length s - i
 
-loop-holds : tie.Need-loop-holds Inv-loop μ-loop
-loop-holds c = refl
-
-shared-slice-read-b : tie.Need-shared-slice-read-b Inv-loop μ-loop
-shared-slice-read-b c = search needs
-
-is-white-requires : tie.Need-is-white-requires Inv-loop μ-loop
-is-white-requires c κs = search needs
-
-add-i : tie.Need-add-i Inv-loop μ-loop
-add-i c = search needs
-
-loop-less : tie.Need-loop-less Inv-loop μ-loop
-loop-less c = search needs
-
 loop-again : tie.Need-loop-again Inv-loop μ-loop
 loop-again c = sym (start-white _ _ (c .before .before .before .loop-test .taken) (sym (c .before .is-white .ensures) ∙ c .if1 .taken)) ∙ c .before .before .before .before .loop .inv
 
 returns : tie.Need-returns Inv-loop μ-loop
 returns c = sym (start-solid _ _ (c .before .before .before .before .loop-test .taken) (sym (c .before .before .is-white .ensures) ∙ c .before .if1 .left) (c .if2 .taken)) ∙ c .before .before .before .before .before .loop .inv
-
-in-file-requires : tie.Need-in-file-requires Inv-loop μ-loop
-in-file-requires c κs = search needs
-
-token-at-requires : tie.Need-token-at-requires Inv-loop μ-loop
-token-at-requires c κs = search needs
-
-is-between-requires : tie.Need-is-between-requires Inv-loop μ-loop
-is-between-requires c κs = search needs
 
 returns-2 : tie.Need-returns-2 Inv-loop μ-loop
 returns-2 c = sym (start-here _ _ _ _ (c .before .before .before .before .before .before .before .before .loop-test .taken) (c .before .before .before .in-file .ensures) (c .before .before .token-at .ensures) (sym (c .before .is-between .ensures) ∙ not-true _ (c .if3 .taken))) ∙ c .before .before .before .before .before .before .before .before .before .loop .inv
@@ -63,19 +39,6 @@ pub word-start-spec : {M : Type 1} → statement M
 word-start-spec =
     tie.close
     (tie.spec
-    Inv-loop
-    μ-loop
-    loop-holds
-    shared-slice-read-b
-    is-white-requires
-    add-i
-    loop-less
-    loop-again
-    returns
-    in-file-requires
-    token-at-requires
-    is-between-requires
-    returns-2
-    loop-less-2
-    loop-again-2
-    returns-3)
+    Inv-loop μ-loop (λ c. refl) (λ c. search needs) (λ c κs. search needs) (λ c. search needs) (λ c. search needs)
+    loop-again returns (λ c κs. search needs) (λ c κs. search needs) (λ c κs. search needs) returns-2 loop-less-2
+    loop-again-2 returns-3)

@@ -14,18 +14,6 @@ use Rattle.expand.proofs.put_in.Tie as tie
 returns : tie.Need-returns
 returns c fs t xs m g r = puts-18 _ _ (c .before .before .before .before .args .limit) (c .before .before .before .before .args .z) (c .if1 .taken)
 
-insert-requires : tie.Need-insert-requires
-insert-requires c κs = search needs
-
-sub-push-text : tie.Need-sub-push-text
-sub-push-text c = search needs
-
-push-text-requires : tie.Need-push-text-requires
-push-text-requires c κs = search needs
-
-enum-known-r : tie.Need-enum-known-r
-enum-known-r c = search needs
-
 stack-on-requires : tie.Need-stack-on-requires
 stack-on-requires c κs =
     let a = c .before .before .before .before .before .before .before .before .before .before .before .before .before .before .before .before .args in
@@ -47,21 +35,6 @@ add-replaced-to c =
     let f = fits-list (a .s .now) (a .b .now) (a .out .now) o (a .base) q (c .before .before .before .before .before .before .before .before .before .push-text .result) d _ (c .before .before .before .before .before .r .given .1) (c .before .before .before .before .before .before .before .before .before .before .before .before .before .before .before .before .before .before .pre .0 .base-small) in
     omega (arith, f)
 
-replaced-to-requires : tie.Need-replaced-to-requires
-replaced-to-requires c κs = search needs
-
-enum-told : tie.Need-enum-told
-enum-told c = search needs
-
-same-length : tie.Need-same-length
-same-length c = search needs
-
-same-length-2 : tie.Need-same-length-2
-same-length-2 c = search needs
-
-same-length-3 : tie.Need-same-length-3
-same-length-3 c = search needs
-
 returns-2 : tie.Need-returns-2
 returns-2 c fs t xs m g r =
     let a = c .before .before .before .before .before .before .before .before .before .before .before .before .before .before .before .before .before .before .before .args in
@@ -69,15 +42,6 @@ returns-2 c fs t xs m g r =
     let q = textWith (insertAsc (a .i) (members (a .set))) fs (tidyAll xs) t in
     let d : AddsBy (c .before .before .before .before .before .before .before .before .before .before .push-text .result) (a .s .now) (a .b .now) (a .out .now) o (1024 - a .base) 0 q = rw (c .before .before .before .before .before .before .before .before .before .before .before .before .before .before .insert .ensures) at (c .before .before .before .before .before .before .before .before .before .before .push-text .ensures fs t xs m g r) in
     puts-on (a .s .now) (a .b .now) (a .out .now) o (a .base) q (c .before .before .before .before .before .before .before .before .before .before .push-text .result) d _ _ _ _ (c .before .before .before .before .before .before .r .given .1) (c .before .before .before .before .before .before .before .before .before .before .before .before .before .before .before .before .before .before .before .pre .0 .base-small) (omega (arith, c .before .before .before .before .before .before .before .before .before .before .before .before .before .before .before .if1 .left)) (c .before .before .stack-on .ensures (a .s .now) (a .b .now)) (c .replaced-to .ensures)
-
-same-length-4 : tie.Need-same-length-4
-same-length-4 c = search needs
-
-same-length-5 : tie.Need-same-length-5
-same-length-5 c = search needs
-
-same-length-6 : tie.Need-same-length-6
-same-length-6 c = search needs
 
 returns-3 : tie.Need-returns-3
 returns-3 c fs t xs m g r =
@@ -91,20 +55,6 @@ pub put-in-spec : {M : Type 1} → statement M
 put-in-spec =
     tie.close
     (tie.spec
-    returns
-    insert-requires
-    sub-push-text
-    push-text-requires
-    enum-known-r
-    stack-on-requires
-    add-replaced-to
-    replaced-to-requires
-    enum-told
-    same-length
-    same-length-2
-    same-length-3
-    returns-2
-    same-length-4
-    same-length-5
-    same-length-6
-    returns-3)
+    returns (λ c κs. search needs) (λ c. search needs) (λ c κs. search needs) (λ c. search needs) stack-on-requires
+    add-replaced-to (λ c κs. search needs) (λ c. search needs) (λ c. search needs) (λ c. search needs)
+    (λ c. search needs) returns-2 (λ c. search needs) (λ c. search needs) (λ c. search needs) returns-3)

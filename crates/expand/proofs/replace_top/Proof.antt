@@ -14,24 +14,6 @@ use borrow.Author.Needs.{needs}
 use Rattle.expand.proofs.replace_top.Statement.{statement}
 use Rattle.expand.proofs.replace_top.Tie as tie
 
-resolve-requires : tie.Need-resolve-requires
-resolve-requires c κs = search needs
-
-enum-known-c : tie.Need-enum-known-c
-enum-known-c c = search needs
-
-enum-known-c-2 : tie.Need-enum-known-c-2
-enum-known-c-2 c = search needs
-
-read-requires : tie.Need-read-requires
-read-requires c κs = search needs
-
-accept-requires : tie.Need-accept-requires
-accept-requires c κs = search needs
-
-enum-known-f : tie.Need-enum-known-f
-enum-known-f c = search needs
-
 sub-put-in : tie.Need-sub-put-in
 sub-put-in c =
     let a = c .before .before .before .before .before .before .before .before .before .before .before .before .before .before .before .before .before .before .before .before .args in
@@ -64,27 +46,12 @@ put-in-requires c κs =
       list-usage h (a .w .now) (members (a .set)) (c .before .before .before .before .before .before .before .before .before .before .before .before .before .before .before .before .before .resolve .result) (c .before .before .before .before .before .before .before .before .before .before .before .before .before .before .before .before .before .resolve .ensures ms h) _ (c .before .before .before .before .before .before .before .before .before .before .before .before .before .before .before .c2 .given .1) (p .bytes-small) (c .before .before .before .before .before .before .before .before .before .before .before .before .before .read .ensures) f (a .n) ranges (f 0) (c .before .before .before .before .before .before .before .before .before .accept .result) (c .before .before .before .before .before .before .before .before .before .accept .ensures) _ _ (c .before .before .before .before .f .given .1),
     )
 
-enum-known-f-2 : tie.Need-enum-known-f-2
-enum-known-f-2 c = search needs
-
 returns : tie.Need-returns
 returns c ms h =
     let a = c .before .before .before .before .before .before .before .before .args in
     let p = c .before .before .before .before .before .before .before .before .pre .1 in
     let ps = stacked (a .s .now) (a .b .now) (a .list .now) (a .n) in
     replaced-refused ms (a .limit) (a .z) _ _ _ (called-refused h (a .w .now) (members (a .set)) (c .before .before .before .resolve .result) (c .before .before .before .resolve .ensures ms h) _ (c .before .c .given .1) ps)
-
-same-length : tie.Need-same-length
-same-length c = search needs
-
-same-length-2 : tie.Need-same-length-2
-same-length-2 c = search needs
-
-same-length-3 : tie.Need-same-length-3
-same-length-3 c = search needs
-
-same-length-4 : tie.Need-same-length-4
-same-length-4 c = search needs
 
 returns-2 : tie.Need-returns-2
 returns-2 c ms h =
@@ -96,15 +63,6 @@ returns-2 c ms h =
     let e = list-within h (a .w .now) (members (a .set)) (c .before .before .before .before .before .before .before .before .before .before .before .before .before .before .before .before .before .before .before .before .before .resolve .result) (c .before .before .before .before .before .before .before .before .before .before .before .before .before .before .before .before .before .before .before .before .before .resolve .ensures ms h) _ (c .before .before .before .before .before .before .before .before .before .before .before .before .before .before .before .before .before .before .before .c2 .given .1) (p .bytes-small) (c .before .before .before .before .before .before .before .before .before .before .before .before .before .before .before .before .before .read .ensures) f (a .n) ranges (f 0) (c .before .before .before .before .before .before .before .before .before .before .before .before .before .accept .result) (c .before .before .before .before .before .before .before .before .before .before .before .before .before .accept .ensures) _ _ (c .before .before .before .before .before .before .before .before .f .given .1) in
     replaced-list (a .s .now) (a .b .now) (a .list .now) (c .before .before .before .put-in .last .1 .1 .1 .1 .0) (a .n) _ ms (a .w .now) (members (a .set)) (a .limit) (a .z) (c .before .before .before .put-in .result) e
     (list-gives h (a .w .now) (members (a .set)) (c .before .before .before .before .before .before .before .before .before .before .before .before .before .before .before .before .before .before .before .before .before .resolve .result) (c .before .before .before .before .before .before .before .before .before .before .before .before .before .before .before .before .before .before .before .before .before .resolve .ensures ms h) _ (c .before .before .before .before .before .before .before .before .before .before .before .before .before .before .before .before .before .before .before .c2 .given .1) (p .bytes-small) (c .before .before .before .before .before .before .before .before .before .before .before .before .before .before .before .before .before .read .ensures) f (a .n) ranges (f 0) (c .before .before .before .before .before .before .before .before .before .before .before .before .before .accept .result) (c .before .before .before .before .before .before .before .before .before .before .before .before .before .accept .ensures) _ _ (c .before .before .before .before .before .before .before .before .f .given .1) (a .s .now) (c .before .before .before .put-in .last .1 .1 .1 .1 .0) rest (a .limit) (a .z) (c .before .before .before .put-in .result) (c .before .before .before .put-in .ensures))
-
-same-length-5 : tie.Need-same-length-5
-same-length-5 c = search needs
-
-same-length-6 : tie.Need-same-length-6
-same-length-6 c = search needs
-
-same-length-7 : tie.Need-same-length-7
-same-length-7 c = search needs
 
 returns-3 : tie.Need-returns-3
 returns-3 c ms h =
@@ -119,22 +77,7 @@ pub replace-top-spec : {M : Type 1} → statement M
 replace-top-spec =
     tie.close
     (tie.spec
-    resolve-requires
-    enum-known-c
-    enum-known-c-2
-    read-requires
-    accept-requires
-    enum-known-f
-    sub-put-in
-    put-in-requires
-    enum-known-f-2
-    returns
-    same-length
-    same-length-2
-    same-length-3
-    same-length-4
-    returns-2
-    same-length-5
-    same-length-6
-    same-length-7
-    returns-3)
+    (λ c κs. search needs) (λ c. search needs) (λ c. search needs) (λ c κs. search needs) (λ c κs. search needs)
+    (λ c. search needs) sub-put-in put-in-requires (λ c. search needs) returns (λ c. search needs)
+    (λ c. search needs) (λ c. search needs) (λ c. search needs) returns-2 (λ c. search needs) (λ c. search needs)
+    (λ c. search needs) returns-3)

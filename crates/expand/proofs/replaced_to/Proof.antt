@@ -7,12 +7,6 @@ use borrow.Author.Needs.{needs}
 use Rattle.expand.proofs.replaced_to.Statement.{statement}
 use Rattle.expand.proofs.replaced_to.Tie as tie
 
-add-t5 : tie.Need-add-t5
-add-t5 c = search needs
-
-larger-requires : tie.Need-larger-requires
-larger-requires c κs = search needs
-
 returns : tie.Need-returns
 returns c =
     let a = c .before .before .before .args in
@@ -20,4 +14,5 @@ returns c =
     ap f (c .larger .ensures)
 
 pub replaced-to-spec : {M : Type 1} → statement M
-replaced-to-spec = tie.close (tie.spec add-t5 larger-requires returns)
+replaced-to-spec = tie.close (tie.spec
+    (λ c. search needs) (λ c κs. search needs) returns)

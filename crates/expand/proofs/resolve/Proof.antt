@@ -9,12 +9,6 @@ use borrow.Author.Needs.{needs}
 use Rattle.expand.proofs.resolve.Statement.{statement}
 use Rattle.expand.proofs.resolve.Tie as tie
 
-find-requires : tie.Need-find-requires
-find-requires c κs = search needs
-
-enum-known-f : tie.Need-enum-known-f
-enum-known-f c = search needs
-
 member-requires : tie.Need-member-requires
 member-requires c κs =
     let h = c .before .before .before .before .before .before .pre .1 .holds in
@@ -22,9 +16,6 @@ member-requires c κs =
 
 returns : tie.Need-returns
 returns c ms h = names-recursive (c .before .before .before .before .before .before .before .before .args .w .now) h (c .before .before .before .before .before .find .ensures ms h) (members (c .before .before .before .before .before .before .before .before .args .set)) _ (c .before .before .before .f .given .1) (sym (c .before .member .ensures) ∙ c .if1 .taken)
-
-enum-told : tie.Need-enum-told
-enum-told c = search needs
 
 returns-2 : tie.Need-returns-2
 returns-2 c ms h = names-macro (c .before .before .before .before .before .before .before .before .args .w .now) h (c .before .before .before .before .before .find .ensures ms h) (members (c .before .before .before .before .before .before .before .before .args .set)) _ (c .before .before .before .f .given .1) (sym (c .before .member .ensures) ∙ c .if1 .left)
@@ -35,4 +26,5 @@ returns-3 c ms h = names-none (c .before .before .before .before .before .args .
 pub resolve-spec : {M : Type 1} → statement M
 resolve-spec =
     tie.close
-    (tie.spec find-requires enum-known-f member-requires returns enum-told returns-2 returns-3)
+    (tie.spec
+    (λ c κs. search needs) (λ c. search needs) member-requires returns (λ c. search needs) returns-2 returns-3)

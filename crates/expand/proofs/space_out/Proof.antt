@@ -12,15 +12,6 @@ use Rattle.expand.proofs.Spelling.{raw-length}
 use Rattle.expand.proofs.space_out.Statement.{statement}
 use Rattle.expand.proofs.space_out.Tie as tie
 
-slice-aggregate-add-space : tie.Need-slice-aggregate-add-space
-slice-aggregate-add-space c = search needs
-
-add-space-requires : tie.Need-add-space-requires
-add-space-requires c κs = search needs
-
-same-length : tie.Need-same-length
-same-length c = search needs
-
 returns : tie.Need-returns
 unfolding rawOf
 returns c = rw (eq-eqb _ _ (c .before .before .before .before .before .if1 .taken)) (c .before .before .add-space .ensures)
@@ -33,9 +24,6 @@ add-space-requires-2 c κs =
     let z = c .before .before .before .before .before .before .before in
     omega (arith, ap length (c .before .bytes-at .ensures), raw-length (z .args .s .now) (z .args .b .now) (z .args .p) (z .pre .0) (z .pre .1))
 
-same-length-2 : tie.Need-same-length-2
-same-length-2 c = search needs
-
 returns-2 : tie.Need-returns-2
 returns-2 c = c .before .before .add-space2 .ensures ∙ ap (λ (w : List ℕ). w ++ (32 ∷ [])) (c .before .before .before .before .bytes-at .ensures)
 
@@ -43,11 +31,5 @@ pub space-out-spec : {M : Type 1} → statement M
 space-out-spec =
     tie.close
     (tie.spec
-    slice-aggregate-add-space
-    add-space-requires
-    same-length
-    returns
-    bytes-at-requires
-    add-space-requires-2
-    same-length-2
-    returns-2)
+    (λ c. search needs) (λ c κs. search needs) (λ c. search needs) returns bytes-at-requires add-space-requires-2
+    (λ c. search needs) returns-2)

@@ -27,45 +27,6 @@ first-within m s t q = rw q (go (leb (length s) 0) refl)
 as-long : (m n : ℕ) → n ≡ m → m ≤ n
 as-long m n e = omega arith
 
-slice-aggregate-say : tie.Need-slice-aggregate-say
-slice-aggregate-say c = search needs
-
-say-requires : tie.Need-say-requires
-say-requires c κs = search needs
-
-returns : tie.Need-returns
-returns c = search needs
-
-in-file-requires : tie.Need-in-file-requires
-in-file-requires c κs = search needs
-
-token-at-requires : tie.Need-token-at-requires
-token-at-requires c κs = search needs
-
-part-of-requires : tie.Need-part-of-requires
-part-of-requires c κs = search needs
-
-slice-aggregate-expand : tie.Need-slice-aggregate-expand
-slice-aggregate-expand c = search needs
-
-slice-aggregate-expand-2 : tie.Need-slice-aggregate-expand-2
-slice-aggregate-expand-2 c = search needs
-
-slice-aggregate-expand-3 : tie.Need-slice-aggregate-expand-3
-slice-aggregate-expand-3 c = search needs
-
-slice-aggregate-expand-4 : tie.Need-slice-aggregate-expand-4
-slice-aggregate-expand-4 c = search needs
-
-slice-aggregate-expand-5 : tie.Need-slice-aggregate-expand-5
-slice-aggregate-expand-5 c = search needs
-
-slice-aggregate-expand-6 : tie.Need-slice-aggregate-expand-6
-slice-aggregate-expand-6 c = search needs
-
-start-requires : tie.Need-start-requires
-start-requires c κs = search needs
-
 expand-requires : tie.Need-expand-requires
 expand-requires c κs = (
   first-within _ _ _ (c .before .before .before .before .before .before .before .before .before .before .before .token-at .ensures),
@@ -83,41 +44,11 @@ expand-requires c κs = (
   c .before .before .before .before .before .before .before .before .before .before .before .before .before .before .before .before .before .before .before .pre .3,
 )
 
-print-answer-requires : tie.Need-print-answer-requires
-print-answer-requires c κs = search needs
-
-same-length : tie.Need-same-length
-same-length c = search needs
-
-same-length-2 : tie.Need-same-length-2
-same-length-2 c = search needs
-
-same-length-3 : tie.Need-same-length-3
-same-length-3 c = search needs
-
-returns-2 : tie.Need-returns-2
-returns-2 c = search needs
-
 pub run-usage-spec : {M : Type 1} → statement M
 run-usage-spec =
     tie.close
     (tie.spec
-    slice-aggregate-say
-    say-requires
-    returns
-    in-file-requires
-    token-at-requires
-    part-of-requires
-    slice-aggregate-expand
-    slice-aggregate-expand-2
-    slice-aggregate-expand-3
-    slice-aggregate-expand-4
-    slice-aggregate-expand-5
-    slice-aggregate-expand-6
-    start-requires
-    expand-requires
-    print-answer-requires
-    same-length
-    same-length-2
-    same-length-3
-    returns-2)
+    (λ c. search needs) (λ c κs. search needs) (λ c. search needs) (λ c κs. search needs) (λ c κs. search needs)
+    (λ c κs. search needs) (λ c. search needs) (λ c. search needs) (λ c. search needs) (λ c. search needs)
+    (λ c. search needs) (λ c. search needs) (λ c κs. search needs) expand-requires (λ c κs. search needs)
+    (λ c. search needs) (λ c. search needs) (λ c. search needs) (λ c. search needs))

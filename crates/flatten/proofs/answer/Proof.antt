@@ -5,14 +5,9 @@ use Rattle.store.proofs.Places.{live-all}
 use Rattle.flatten.proofs.answer.Statement.{statement}
 use Rattle.flatten.proofs.answer.Tie as tie
 
-refused-line-requires : tie.Need-refused-line-requires
-refused-line-requires c κs = tt
-
-start-of-requires : tie.Need-start-of-requires
-start-of-requires c κs = search needs
-
 returns : tie.Need-returns
 returns c ms b h = rw (c .before .refused-line .ensures, live-all h (c .start-of .ensures ms b h))
 
 pub answer-spec : {M : Type 1} → statement M
-answer-spec = tie.close (tie.spec refused-line-requires start-of-requires returns)
+answer-spec = tie.close (tie.spec
+    (λ c κs. tt) (λ c κs. search needs) returns)

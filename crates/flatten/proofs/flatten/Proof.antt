@@ -10,20 +10,11 @@ use Rattle.flatten.proofs.Whole.{filled, not-sound, starts-ready, run-r
 use Rattle.flatten.proofs.flatten.Statement.{statement}
 use Rattle.flatten.proofs.flatten.Tie as tie
 
-is-sound-requires : tie.Need-is-sound-requires
-is-sound-requires c κs = tt
-
-not-taken-requires : tie.Need-not-taken-requires
-not-taken-requires c κs = tt
-
 returns : tie.Need-returns
 returns c =
     let a = c .before .before .before .before .before .before .before .args in
     not-sound (handOver (a .files .now) (a .table .now) (a .root) (a .starts .now) (a .set) (a .limit)) _ _
     (sym (c .before .before .is-sound .ensures (a .limit) (length (a .map .now))) ∙ not-true _ (c .before .if1 .taken)) (c .not-taken .ensures)
-
-zero-store-requires : tie.Need-zero-store-requires
-zero-store-requires c κs = tt
 
 slice-aggregate-define-starts : tie.Need-slice-aggregate-define-starts
 slice-aggregate-define-starts c = sym (length-replicate {A = ℕ} 65536 0)
@@ -34,9 +25,6 @@ define-starts-requires c κs =
     starts-ready (handOver (a .files .now) (a .table .now) (a .root) (a .starts .now) (a .set) (a .limit)) (a .text .now) (a .map .now) (a .bytes .now) _ (a .records .now) _
     (sym (c .before .before .before .before .before .before .before .before .before .before .is-sound .ensures (a .limit) (length (a .map .now))) ∙ not-false _ (c .before .before .before .before .before .before .before .before .before .if1 .left))
     (c .before .before .before .before .before .before .zero-store .kept .0) (c .before .before .before .before .before .before .zero-store .kept .1 .0) _ (c .before .before .before .before .before .before .zero-store .ensures) (omega (arith, filled 65536))
-
-slice-aggregate-run : tie.Need-slice-aggregate-run
-slice-aggregate-run c = refl
 
 slice-aggregate-run-2 : tie.Need-slice-aggregate-run-2
 slice-aggregate-run-2 c = sym (c .before .before .before .before .before .before .before .before .before .before .define-starts .kept .1 .1 .1 .1 .0 ∙ length-replicate {A = ℕ} 65536 0)
@@ -73,17 +61,5 @@ pub flatten-spec : {M : Type 1} → statement M
 flatten-spec =
     tie.close
     (tie.spec
-    is-sound-requires
-    not-taken-requires
-    returns
-    zero-store-requires
-    slice-aggregate-define-starts
-    define-starts-requires
-    slice-aggregate-run
-    slice-aggregate-run-2
-    run-requires
-    same-length
-    same-length-2
-    same-length-3
-    same-length-4
-    returns-2)
+    (λ c κs. tt) (λ c κs. tt) returns (λ c κs. tt) slice-aggregate-define-starts define-starts-requires (λ c. refl)
+    slice-aggregate-run-2 run-requires same-length same-length-2 same-length-3 same-length-4 returns-2)

@@ -5,12 +5,10 @@ use Rattle.store.specs.Stores.{encode}
 use Rattle.flatten.proofs.not_taken.Statement.{statement}
 use Rattle.flatten.proofs.not_taken.Tie as tie
 
-reset-to-requires : tie.Need-reset-to-requires
-reset-to-requires c κs = search needs
-
 returns : tie.Need-returns
 unfolding encode
 returns c = rw (c .reset-to .ensures)
 
 pub not-taken-spec : {M : Type 1} → statement M
-not-taken-spec = tie.close (tie.spec reset-to-requires returns)
+not-taken-spec = tie.close (tie.spec
+    (λ c κs. search needs) returns)

@@ -8,35 +8,11 @@ use Rattle.flatten.proofs.Whole.{filled, start-going, run-leaves}
 use Rattle.flatten.proofs.run.Statement.{statement}
 use Rattle.flatten.proofs.run.Tie as tie
 
-slice-aggregate-run-on : tie.Need-slice-aggregate-run-on
-slice-aggregate-run-on c = refl
-
-slice-aggregate-run-on-2 : tie.Need-slice-aggregate-run-on-2
-slice-aggregate-run-on-2 c = refl
-
-slice-aggregate-run-on-3 : tie.Need-slice-aggregate-run-on-3
-slice-aggregate-run-on-3 c = refl
-
-slice-aggregate-run-on-4 : tie.Need-slice-aggregate-run-on-4
-slice-aggregate-run-on-4 c = refl
-
-slice-aggregate-run-on-5 : tie.Need-slice-aggregate-run-on-5
-slice-aggregate-run-on-5 c = refl
-
 slice-aggregate-run-on-6 : tie.Need-slice-aggregate-run-on-6
 slice-aggregate-run-on-6 c = sym (length-replicate {A = ℕ} 16384 0)
 
 slice-aggregate-run-on-7 : tie.Need-slice-aggregate-run-on-7
 slice-aggregate-run-on-7 c = sym (length-replicate {A = ℕ} 65539 0)
-
-slice-aggregate-run-on-8 : tie.Need-slice-aggregate-run-on-8
-slice-aggregate-run-on-8 c = refl
-
-slice-aggregate-run-on-9 : tie.Need-slice-aggregate-run-on-9
-slice-aggregate-run-on-9 c = refl
-
-started-at-requires : tie.Need-started-at-requires
-started-at-requires c κs = tt
 
 run-on-requires : tie.Need-run-on-requires
 run-on-requires c κs = (
@@ -53,9 +29,6 @@ run-on-requires c κs = (
     form-lent = c .before .before .before .before .before .before .before .before .before .before .before .before .before .before .before .before .before .before .before .before .before .before .pre .form-lent;
   },
 )
-
-answer-requires : tie.Need-answer-requires
-answer-requires c κs = tt
 
 same-length : tie.Need-same-length
 same-length c = c .before .before .before .before .before .before .before .before .before .before .before .before .before .before .before .before .before .before .before .before .before .before .run-on .kept .1 .1 .1 .1 .1 .1 .1 .1 .1 .1 .1 .1 .1 .1 .1 .1 .1 .0
@@ -85,22 +58,6 @@ pub run-spec : {M : Type 1} → statement M
 run-spec =
     tie.close
     (tie.spec
-    slice-aggregate-run-on
-    slice-aggregate-run-on-2
-    slice-aggregate-run-on-3
-    slice-aggregate-run-on-4
-    slice-aggregate-run-on-5
-    slice-aggregate-run-on-6
-    slice-aggregate-run-on-7
-    slice-aggregate-run-on-8
-    slice-aggregate-run-on-9
-    started-at-requires
-    run-on-requires
-    answer-requires
-    same-length
-    same-length-2
-    same-length-3
-    same-length-4
-    same-length-5
-    same-length-6
-    returns)
+    (λ c. refl) (λ c. refl) (λ c. refl) (λ c. refl) (λ c. refl) slice-aggregate-run-on-6 slice-aggregate-run-on-7
+    (λ c. refl) (λ c. refl) (λ c κs. tt) run-on-requires (λ c κs. tt) same-length same-length-2 same-length-3
+    same-length-4 same-length-5 same-length-6 returns)

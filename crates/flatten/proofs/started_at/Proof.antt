@@ -4,11 +4,9 @@ use borrow.Author.Needs.{needs}
 use Rattle.flatten.proofs.started_at.Statement.{statement}
 use Rattle.flatten.proofs.started_at.Tie as tie
 
-reset-to-requires : tie.Need-reset-to-requires
-reset-to-requires c κs = search needs
-
 returns : tie.Need-returns
 returns c = rw (c .reset-to .ensures)
 
 pub started-at-spec : {M : Type 1} → statement M
-started-at-spec = tie.close (tie.spec reset-to-requires returns)
+started-at-spec = tie.close (tie.spec
+    (λ c κs. search needs) returns)

@@ -10,17 +10,9 @@ use Rattle.form.proofs.push_byte.Tie as tie
 returns : tie.Need-returns
 returns c = inr (omega arith)
 
-slice-write-out : tie.Need-slice-write-out
-slice-write-out c = search needs
-
-add-t4 : tie.Need-add-t4
-add-t4 c = search needs
-
-same-length : tie.Need-same-length
-same-length c = search needs
-
 returns-2 : tie.Need-returns-2
 returns-2 c = put-one _ _ _ (omega arith)
 
 pub push-byte-spec : {M : Type 1} → statement M
-push-byte-spec = tie.close (tie.spec returns slice-write-out add-t4 same-length returns-2)
+push-byte-spec = tie.close (tie.spec
+    returns (λ c. search needs) (λ c. search needs) (λ c. search needs) returns-2)

@@ -11,53 +11,17 @@ use Rattle.form.proofs.Formed.{default-plain, default-given}
 use Rattle.form.proofs.push_default.Statement.{statement}
 use Rattle.form.proofs.push_default.Tie as tie
 
-push-byte-requires : tie.Need-push-byte-requires
-push-byte-requires c κs = search needs
-
-enum-known-r : tie.Need-enum-known-r
-enum-known-r c = search needs
-
 push-two-requires : tie.Need-push-two-requires
 push-two-requires c κs = put-past (put-so _ _ _ _ _ _ (c .before .before .before .before .before .before .push-byte .ensures) (c .before .before .r .given .1)) (omega arith)
-
-same-length : tie.Need-same-length
-same-length c = search needs
 
 returns : tie.Need-returns
 returns c = let a = c .before .before .before .before .before .before .before .before .before .before .before .before .before .before .before .before .args in by-then (put-so _ _ _ _ _ _ (c .before .before .before .before .before .before .before .before .before .push-byte .ensures) (c .before .before .before .before .before .r .given .1)) (omega arith) (λ x. absurd x) _ (two 0) (default-plain (a .s .now) (a .f) (not-true _ (c .before .before .before .before .before .before .before .before .before .before .before .if1 .taken))) (c .before .before .push-two .result) (c .before .before .push-two .ensures)
 
-enum-told : tie.Need-enum-told
-enum-told c = search needs
-
-same-length-2 : tie.Need-same-length-2
-same-length-2 c = search needs
-
 returns-2 : tie.Need-returns-2
 returns-2 c = let a = c .before .before .before .before .before .before .before .before .before .before .before .args in put-not _ _ _ _ _ _ (c .before .before .before .before .push-byte .ensures) (λ x. absurd x) (two 0) (default-plain (a .s .now) (a .f) (not-true _ (c .before .before .before .before .before .before .if1 .taken))) (c .enum-told .given .1)
 
-store-text-requires : tie.Need-store-text-requires
-store-text-requires c κs = search needs
-
-enum-known-r-2 : tie.Need-enum-known-r-2
-enum-known-r-2 c = search needs
-
-push-stored-requires : tie.Need-push-stored-requires
-push-stored-requires c κs = search needs
-
-enum-told-2 : tie.Need-enum-told-2
-enum-told-2 c = search needs
-
-same-length-3 : tie.Need-same-length-3
-same-length-3 c = search needs
-
-same-length-4 : tie.Need-same-length-4
-same-length-4 c = search needs
-
 returns-3 : tie.Need-returns-3
 returns-3 c = let a = c .before .before .before .before .before .before .before .before .before .before .before .before .before .before .before .before .before .args in put-as (c .before .before .push-stored .result) _ _ _ (λ x. absurd x) (default-given (a .s .now) (a .f) (not-false _ (c .before .before .before .before .before .before .before .before .before .before .before .before .if1 .left)) (stored-front _ _ _ _ _ _ (c .before .before .before .before .before .before .before .before .before .before .store-text .ensures) (c .before .before .before .before .before .before .r2 .given .1))) (c .before .before .push-stored .ensures)
-
-same-length-5 : tie.Need-same-length-5
-same-length-5 c = search needs
 
 returns-4 : tie.Need-returns-4
 returns-4 c = inl (stored-short _ _ _ _ _ _ (c .before .before .before .before .store-text .ensures) (c .enum-told2 .given .1))
@@ -66,20 +30,6 @@ pub push-default-spec : {M : Type 1} → statement M
 push-default-spec =
     tie.close
     (tie.spec
-    push-byte-requires
-    enum-known-r
-    push-two-requires
-    same-length
-    returns
-    enum-told
-    same-length-2
-    returns-2
-    store-text-requires
-    enum-known-r-2
-    push-stored-requires
-    enum-told-2
-    same-length-3
-    same-length-4
-    returns-3
-    same-length-5
-    returns-4)
+    (λ c κs. search needs) (λ c. search needs) push-two-requires (λ c. search needs) returns (λ c. search needs)
+    (λ c. search needs) returns-2 (λ c κs. search needs) (λ c. search needs) (λ c κs. search needs)
+    (λ c. search needs) (λ c. search needs) (λ c. search needs) returns-3 (λ c. search needs) returns-4)

@@ -8,29 +8,11 @@ use Rattle.form.proofs.Pushing.{put-so, put-past, by-then, put-not}
 use Rattle.form.proofs.push_formal.Statement.{statement}
 use Rattle.form.proofs.push_formal.Tie as tie
 
-push-sized-requires : tie.Need-push-sized-requires
-push-sized-requires c κs = search needs
-
-enum-known-r : tie.Need-enum-known-r
-enum-known-r c = search needs
-
 push-default-requires : tie.Need-push-default-requires
 push-default-requires c κs = put-past (put-so _ _ _ _ _ _ (c .before .before .before .before .before .before .before .push-sized .ensures) (c .before .before .before .r .given .1)) (omega arith)
 
-enum-told : tie.Need-enum-told
-enum-told c = search needs
-
-same-length : tie.Need-same-length
-same-length c = search needs
-
-same-length-2 : tie.Need-same-length-2
-same-length-2 c = search needs
-
 returns : tie.Need-returns
 returns c = by-then (put-so _ _ _ _ _ _ (c .before .before .before .before .before .before .before .before .before .before .before .before .push-sized .ensures) (c .before .before .before .before .before .before .before .before .r .given .1)) (omega arith) (λ x. x) _ _ refl (c .before .before .before .before .push-default .result) (c .before .before .before .before .push-default .ensures)
-
-same-length-3 : tie.Need-same-length-3
-same-length-3 c = search needs
 
 returns-2 : tie.Need-returns-2
 returns-2 c = let a = c .before .before .before .before .before .before .before .before .before .args in put-not _ _ _ _ _ _ (c .before .before .before .before .push-sized .ensures) (λ x. absurd x) (defaultForm (defaultBy (a .s .now) (a .f))) refl (c .enum-told .given .1)
@@ -39,12 +21,5 @@ pub push-formal-spec : {M : Type 1} → statement M
 push-formal-spec =
     tie.close
     (tie.spec
-    push-sized-requires
-    enum-known-r
-    push-default-requires
-    enum-told
-    same-length
-    same-length-2
-    returns
-    same-length-3
-    returns-2)
+    (λ c κs. search needs) (λ c. search needs) push-default-requires (λ c. search needs) (λ c. search needs)
+    (λ c. search needs) returns (λ c. search needs) returns-2)

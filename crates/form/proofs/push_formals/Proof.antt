@@ -21,17 +21,8 @@ abbrev μ-loop : tie.MeasureT-loop
 loop-holds : tie.Need-loop-holds Inv-loop μ-loop
 loop-holds c = walk-first (c .before .before .before .pre)
 
-formal-at-requires : tie.Need-formal-at-requires Inv-loop μ-loop
-formal-at-requires c κs = search needs
-
-enum-known-r : tie.Need-enum-known-r Inv-loop μ-loop
-enum-known-r c = search needs
-
 push-formal-requires : tie.Need-push-formal-requires Inv-loop μ-loop
 push-formal-requires c κs = walk-fits (c .before .before .before .before .before .before .before .before .before .before .loop .inv)
-
-enum-known-p : tie.Need-enum-known-p Inv-loop μ-loop
-enum-known-p c = search needs
 
 same-length : tie.Need-same-length Inv-loop μ-loop
 same-length c = c .before .before .before .before .before .before .before .before .push-formal .kept .1 .1 .0 ∙ (c .before .before .before .before .before .before .before .before .before .before .before .before .before .before .before .before .formal-at .kept .1 .1 .0 ∙ c .before .before .before .before .before .before .before .before .before .before .before .before .before .before .before .before .before .before .before .loop .inv .scan .same-length)
@@ -48,9 +39,6 @@ loop-less c = scan-less (c .before .before .before .before .before .before .befo
 loop-again : tie.Need-loop-again Inv-loop μ-loop
 loop-again c = walk-next (c .before .before .before .before .before .before .before .before .before .before .before .before .before .before .before .before .before .before .before .loop .inv) (c .before .before .before .before .before .before .before .before .before .before .before .before .before .before .before .before .formal-at .ensures) (c .before .before .before .before .before .before .before .before .before .before .before .before .r .given .1) _ _ (c .before .before .before .before .before .before .before .before .before .before .before .before .before .before .before .before .formal-at .kept .1 .1 .0) (c .before .before .before .before .before .before .before .before .push-formal .kept .1 .1 .1 .0) (c .before .before .before .before .before .before .before .before .push-formal .result) (c .before .before .before .before .before .before .before .before .push-formal .ensures) (c .before .before .before .before .before .before .before .before .push-formal .kept .1 .1 .0 ∙ c .before .before .before .before .before .before .before .before .before .before .before .before .before .before .before .before .formal-at .kept .1 .1 .0) (c .before .before .p .given .1) (c .if1 .left)
 
-enum-told : tie.Need-enum-told Inv-loop μ-loop
-enum-told c = search needs
-
 same-length-3 : tie.Need-same-length-3 Inv-loop μ-loop
 same-length-3 c = c .before .before .before .before .before .before .push-formal .kept .1 .1 .0 ∙ (c .before .before .before .before .before .before .before .before .before .before .before .before .before .before .formal-at .kept .1 .1 .0 ∙ c .before .before .before .before .before .before .before .before .before .before .before .before .before .before .before .before .before .loop .inv .scan .same-length)
 
@@ -60,9 +48,6 @@ same-length-4 c = c .before .before .before .before .before .before .push-formal
 returns-2 : tie.Need-returns-2 Inv-loop μ-loop
 returns-2 c fs e p = walk-full (c .before .before .before .before .before .before .before .before .before .before .before .before .before .before .before .before .before .loop .inv) (c .before .before .before .before .before .before .before .before .before .before .before .before .before .before .formal-at .ensures) (c .before .before .before .before .before .before .before .before .before .before .r .given .1) _ _ (c .before .before .before .before .before .before .before .before .before .before .before .before .before .before .formal-at .kept .1 .1 .0) (c .before .before .before .before .before .before .push-formal .kept .1 .1 .1 .0) (c .before .before .before .before .before .before .push-formal .result) (c .before .before .before .before .before .before .push-formal .ensures) p (c .enum-told .given .1)
 
-enum-told-2 : tie.Need-enum-told-2 Inv-loop μ-loop
-enum-told-2 c = search needs
-
 same-length-5 : tie.Need-same-length-5 Inv-loop μ-loop
 same-length-5 c = c .before .before .before .before .formal-at .kept .1 .1 .0 ∙ c .before .before .before .before .before .before .before .loop .inv .scan .same-length
 
@@ -71,9 +56,6 @@ same-length-6 c = c .before .before .before .before .before .before .before .loo
 
 returns-3 : tie.Need-returns-3 Inv-loop μ-loop
 returns-3 c fs e p = scan-torn (c .before .before .before .before .before .before .before .loop .inv .scan) (c .before .before .before .before .formal-at .ensures) (c .enum-told2 .given .1) p
-
-enum-told-3 : tie.Need-enum-told-3 Inv-loop μ-loop
-enum-told-3 c = search needs
 
 same-length-7 : tie.Need-same-length-7 Inv-loop μ-loop
 same-length-7 c = c .before .before .before .before .formal-at .kept .1 .1 .0 ∙ c .before .before .before .before .before .before .before .loop .inv .scan .same-length
@@ -97,30 +79,7 @@ pub push-formals-spec : {M : Type 1} → statement M
 push-formals-spec =
     tie.close
     (tie.spec
-    Inv-loop
-    μ-loop
-    loop-holds
-    formal-at-requires
-    enum-known-r
-    push-formal-requires
-    enum-known-p
-    same-length
-    same-length-2
-    returns
-    loop-less
-    loop-again
-    enum-told
-    same-length-3
-    same-length-4
-    returns-2
-    enum-told-2
-    same-length-5
-    same-length-6
-    returns-3
-    enum-told-3
-    same-length-7
-    same-length-8
-    returns-4
-    same-length-9
-    same-length-10
-    returns-5)
+    Inv-loop μ-loop loop-holds (λ c κs. search needs) (λ c. search needs) push-formal-requires (λ c. search needs)
+    same-length same-length-2 returns loop-less loop-again (λ c. search needs) same-length-3 same-length-4
+    returns-2 (λ c. search needs) same-length-5 same-length-6 returns-3 (λ c. search needs) same-length-7
+    same-length-8 returns-4 same-length-9 same-length-10 returns-5)

@@ -10,29 +10,11 @@ use Rattle.form.proofs.Formed.{head-form}
 use Rattle.form.proofs.push_head.Statement.{statement}
 use Rattle.form.proofs.push_head.Tie as tie
 
-push-part-requires : tie.Need-push-part-requires
-push-part-requires c κs = search needs
-
-enum-known-r : tie.Need-enum-known-r
-enum-known-r c = search needs
-
 push-list-requires : tie.Need-push-list-requires
 push-list-requires c κs = (put-past (put-so _ _ _ _ _ _ (c .before .before .before .before .before .before .before .push-part .ensures) (c .before .before .before .r .given .1)) (omega arith), c .before .before .before .before .before .before .before .before .before .before .before .before .pre)
 
-enum-told : tie.Need-enum-told
-enum-told c = search needs
-
-same-length : tie.Need-same-length
-same-length c = search needs
-
-same-length-2 : tie.Need-same-length-2
-same-length-2 c = search needs
-
 returns : tie.Need-returns
 returns c fs x p q = let a = c .before .before .before .before .before .before .before .before .before .before .before .before .before .before .before .before .before .args in by-then (put-so _ _ _ _ _ _ (c .before .before .before .before .before .before .before .before .before .before .before .before .push-part .ensures) (c .before .before .before .before .before .before .before .before .r .given .1)) (omega arith) (λ l. l) _ (listForm (parametersOf (a .s .now) fs)) (head-form (part (a .s .now) (a .h .from) (a .h .end)) (parametersOf (a .s .now) fs)) (c .before .before .before .before .push-list .result) (c .before .before .before .before .push-list .ensures fs x p q)
-
-same-length-3 : tie.Need-same-length-3
-same-length-3 c = search needs
 
 returns-2 : tie.Need-returns-2
 returns-2 c fs x p q = let a = c .before .before .before .before .before .before .before .before .before .args in put-not _ _ _ _ _ _ (c .before .before .before .before .push-part .ensures) (λ l. absurd l) (listForm (parametersOf (a .s .now) fs)) (head-form (part (a .s .now) (a .h .from) (a .h .end)) (parametersOf (a .s .now) fs)) (c .enum-told .given .1)
@@ -41,12 +23,5 @@ pub push-head-spec : {M : Type 1} → statement M
 push-head-spec =
     tie.close
     (tie.spec
-    push-part-requires
-    enum-known-r
-    push-list-requires
-    enum-told
-    same-length
-    same-length-2
-    returns
-    same-length-3
-    returns-2)
+    (λ c κs. search needs) (λ c. search needs) push-list-requires (λ c. search needs) (λ c. search needs)
+    (λ c. search needs) returns (λ c. search needs) returns-2)

@@ -11,38 +11,14 @@ use Rattle.form.proofs.Formed.{formsOf, forms-none, list-counted}
 use Rattle.form.proofs.push_list.Statement.{statement}
 use Rattle.form.proofs.push_list.Tie as tie
 
-cast-push-byte : tie.Need-cast-push-byte
-cast-push-byte c = search needs
-
-push-byte-requires : tie.Need-push-byte-requires
-push-byte-requires c κs = search needs
-
-enum-known-r : tie.Need-enum-known-r
-enum-known-r c = search needs
-
 push-formals-requires : tie.Need-push-formals-requires
 push-formals-requires c κs = put-past (put-so _ _ _ _ _ _ (c .before .before .before .before .before .before .before .before .push-byte .ensures) (c .before .before .before .before .r .given .1)) (omega arith)
-
-same-length : tie.Need-same-length
-same-length c = search needs
-
-same-length-2 : tie.Need-same-length-2
-same-length-2 c = search needs
 
 returns : tie.Need-returns
 returns c fs x p q = let a = c .before .before .before .before .before .before .before .before .before .before .before .before .before .before .before .before .before .before .args in by-then (put-so _ _ _ _ _ _ (c .before .before .before .before .before .before .before .before .before .before .before .before .before .push-byte .ensures) (c .before .before .before .before .before .before .before .before .before .r .given .1)) (omega arith) (λ l. l) _ (formsOf (a .s .now) fs) (list-counted (a .s .now) (a .count) fs (c .before .before .before .before .before .before .before .before .before .before .before .before .before .before .before .before .before .before .pre .1) q) (c .before .before .before .before .push-formals .result) (c .before .before .before .before .push-formals .ensures fs x (listed-formals (a .s .now) (a .h) p (c .before .before .before .before .before .before .before .if1 .taken)))
 
-enum-told : tie.Need-enum-told
-enum-told c = search needs
-
-same-length-3 : tie.Need-same-length-3
-same-length-3 c = search needs
-
 returns-2 : tie.Need-returns-2
 returns-2 c fs x p q = let a = c .before .before .before .before .before .before .before .before .before .before .before .args in put-so _ _ _ _ _ _ (put-as (c .before .before .before .before .before .before .push-byte .result) _ _ _ (λ l. l) (ap (λ (w : List ℕ). a .count % 256 ∷ w) (sym (forms-none (a .s .now) (unlisted-none (a .s .now) (a .h) p (c .if1 .left)))) ∙ list-counted (a .s .now) (a .count) fs (c .before .before .before .before .before .before .before .before .before .before .before .pre .1) q) (c .before .before .before .before .before .before .push-byte .ensures)) (c .before .before .r .given .1)
-
-same-length-4 : tie.Need-same-length-4
-same-length-4 c = search needs
 
 returns-3 : tie.Need-returns-3
 returns-3 c fs x p q = let a = c .before .before .before .before .before .before .before .before .before .args in put-not _ _ _ _ _ _ (c .before .before .before .before .push-byte .ensures) (λ l. absurd l) (formsOf (a .s .now) fs) (list-counted (a .s .now) (a .count) fs (c .before .before .before .before .before .before .before .before .before .pre .1) q) (c .enum-told .given .1)
@@ -51,15 +27,5 @@ pub push-list-spec : {M : Type 1} → statement M
 push-list-spec =
     tie.close
     (tie.spec
-    cast-push-byte
-    push-byte-requires
-    enum-known-r
-    push-formals-requires
-    same-length
-    same-length-2
-    returns
-    enum-told
-    same-length-3
-    returns-2
-    same-length-4
-    returns-3)
+    (λ c. search needs) (λ c κs. search needs) (λ c. search needs) push-formals-requires (λ c. search needs)
+    (λ c. search needs) returns (λ c. search needs) (λ c. search needs) returns-2 (λ c. search needs) returns-3)

@@ -30,21 +30,6 @@ same-length-2 c = c .before .before .before .loop .inv .same-length
 returns-2 : tie.Need-returns-2 Inv-loop μ-loop
 returns-2 c = inr (pushing-full (c .before .before .before .loop .inv) (part-more _ _ _ (c .before .before .loop-test .taken) (c .before .if1 .left)) (c .if2 .taken))
 
-shared-slice-read-out : tie.Need-shared-slice-read-out Inv-loop μ-loop
-shared-slice-read-out c = search needs
-
-slice-write-out : tie.Need-slice-write-out Inv-loop μ-loop
-slice-write-out c = search needs
-
-add-k : tie.Need-add-k Inv-loop μ-loop
-add-k c = search needs
-
-add-i : tie.Need-add-i Inv-loop μ-loop
-add-i c = search needs
-
-loop-less : tie.Need-loop-less Inv-loop μ-loop
-loop-less c = search needs
-
 loop-again : tie.Need-loop-again Inv-loop μ-loop
 loop-again c = pushing-byte (c .before .before .before .before .loop .inv) (part-more _ _ _ (c .before .before .before .loop-test .taken) (c .before .before .if1 .left)) (c .before .if2 .left)
 
@@ -58,18 +43,5 @@ pub push-part-spec : {M : Type 1} → statement M
 push-part-spec =
     tie.close
     (tie.spec
-    Inv-loop
-    μ-loop
-    loop-holds
-    same-length
-    returns
-    same-length-2
-    returns-2
-    shared-slice-read-out
-    slice-write-out
-    add-k
-    add-i
-    loop-less
-    loop-again
-    same-length-3
-    returns-3)
+    Inv-loop μ-loop loop-holds same-length returns same-length-2 returns-2 (λ c. search needs) (λ c. search needs)
+    (λ c. search needs) (λ c. search needs) (λ c. search needs) loop-again same-length-3 returns-3)

@@ -12,29 +12,11 @@ use Rattle.form.proofs.Pushing.{put-as, put-so, put-past, by-then, put-
 use Rattle.form.proofs.push_sized.Statement.{statement}
 use Rattle.form.proofs.push_sized.Tie as tie
 
-part-of-requires : tie.Need-part-of-requires
-part-of-requires c κs = search needs
-
-push-two-requires : tie.Need-push-two-requires
-push-two-requires c κs = search needs
-
-enum-known-r : tie.Need-enum-known-r
-enum-known-r c = search needs
-
 push-part-requires : tie.Need-push-part-requires
 push-part-requires c κs = put-past (put-so _ _ _ _ _ _ (c .before .before .before .before .before .before .push-two .ensures) (c .before .before .r .given .1)) (omega arith)
 
-enum-told : tie.Need-enum-told
-enum-told c = search needs
-
-same-length : tie.Need-same-length
-same-length c = search needs
-
 returns : tie.Need-returns
 returns c = by-then (put-so _ _ _ _ _ _ (put-as (c .before .before .before .before .before .before .before .before .before .push-two .result) _ _ _ (λ x. x) (ap (λ (w : List ℕ). two (length w)) (c .before .before .before .before .before .before .before .before .before .before .before .part-of .ensures)) (c .before .before .before .before .before .before .before .before .before .push-two .ensures)) (c .before .before .before .before .before .r .given .1)) (omega arith) (λ x. x) _ _ refl (c .before .before .push-part .result) (c .before .before .push-part .ensures)
-
-same-length-2 : tie.Need-same-length-2
-same-length-2 c = search needs
 
 returns-2 : tie.Need-returns-2
 returns-2 c = let a = c .before .before .before .before .before .before .before .before .before .args in put-not _ _ _ _ _ _ (put-as (c .before .before .before .before .push-two .result) _ _ _ (λ x. x) (ap (λ (w : List ℕ). two (length w)) (c .before .before .before .before .before .before .part-of .ensures)) (c .before .before .before .before .push-two .ensures)) (λ x. x) (part (a .s .now) (a .at) (a .end)) refl (c .enum-told .given .1)
@@ -43,12 +25,5 @@ pub push-sized-spec : {M : Type 1} → statement M
 push-sized-spec =
     tie.close
     (tie.spec
-    part-of-requires
-    push-two-requires
-    enum-known-r
-    push-part-requires
-    enum-told
-    same-length
-    returns
-    same-length-2
-    returns-2)
+    (λ c κs. search needs) (λ c κs. search needs) (λ c. search needs) push-part-requires (λ c. search needs)
+    (λ c. search needs) returns (λ c. search needs) returns-2)

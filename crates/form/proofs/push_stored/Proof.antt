@@ -9,26 +9,11 @@ use Rattle.form.proofs.Pushing.{put-so, put-past, by-then, put-not}
 use Rattle.form.proofs.push_stored.Statement.{statement}
 use Rattle.form.proofs.push_stored.Tie as tie
 
-push-byte-requires : tie.Need-push-byte-requires
-push-byte-requires c κs = search needs
-
-enum-known-r : tie.Need-enum-known-r
-enum-known-r c = search needs
-
 push-sized-requires : tie.Need-push-sized-requires
 push-sized-requires c κs = put-past (put-so _ _ _ _ _ _ (c .before .before .before .before .before .before .push-byte .ensures) (c .before .before .r .given .1)) (omega arith)
 
-enum-told : tie.Need-enum-told
-enum-told c = search needs
-
-same-length : tie.Need-same-length
-same-length c = search needs
-
 returns : tie.Need-returns
 returns c = by-then (put-so _ _ _ _ _ _ (c .before .before .before .before .before .before .before .before .before .push-byte .ensures) (c .before .before .before .before .before .r .given .1)) (omega arith) (λ x. x) _ _ refl (c .before .before .push-sized .result) (c .before .before .push-sized .ensures)
-
-same-length-2 : tie.Need-same-length-2
-same-length-2 c = search needs
 
 returns-2 : tie.Need-returns-2
 returns-2 c = let a = c .before .before .before .before .before .before .before .before .args in put-not _ _ _ _ _ _ (c .before .before .before .before .push-byte .ensures) (λ x. x) (sized (part (a .work .now) 0 (a .k))) refl (c .enum-told .given .1)
@@ -37,11 +22,5 @@ pub push-stored-spec : {M : Type 1} → statement M
 push-stored-spec =
     tie.close
     (tie.spec
-    push-byte-requires
-    enum-known-r
-    push-sized-requires
-    enum-told
-    same-length
-    returns
-    same-length-2
-    returns-2)
+    (λ c κs. search needs) (λ c. search needs) push-sized-requires (λ c. search needs) (λ c. search needs) returns
+    (λ c. search needs) returns-2)

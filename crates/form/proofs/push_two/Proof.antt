@@ -9,32 +9,11 @@ use Rattle.form.proofs.Pushing.{put-so, put-past, by-then, put-not}
 use Rattle.form.proofs.push_two.Statement.{statement}
 use Rattle.form.proofs.push_two.Tie as tie
 
-cast-push-byte : tie.Need-cast-push-byte
-cast-push-byte c = search needs
-
-push-byte-requires : tie.Need-push-byte-requires
-push-byte-requires c κs = search needs
-
-enum-known-r : tie.Need-enum-known-r
-enum-known-r c = search needs
-
-cast-push-byte-2 : tie.Need-cast-push-byte-2
-cast-push-byte-2 c = search needs
-
 push-byte-requires-2 : tie.Need-push-byte-requires-2
 push-byte-requires-2 c κs = put-past (put-so _ _ _ _ _ _ (c .before .before .before .before .before .before .push-byte .ensures) (c .before .before .r .given .1)) (omega arith)
 
-enum-told : tie.Need-enum-told
-enum-told c = search needs
-
-same-length : tie.Need-same-length
-same-length c = search needs
-
 returns : tie.Need-returns
 returns c = by-then (put-so _ _ _ _ _ _ (c .before .before .before .before .before .before .before .before .before .push-byte .ensures) (c .before .before .before .before .before .r .given .1)) (omega arith) (λ x. x) _ _ refl (c .before .before .push-byte2 .result) (c .before .before .push-byte2 .ensures)
-
-same-length-2 : tie.Need-same-length-2
-same-length-2 c = search needs
 
 returns-2 : tie.Need-returns-2
 returns-2 c = put-not _ _ _ _ _ _ (c .before .before .before .before .push-byte .ensures) (λ x. x) (c .before .before .before .before .before .before .before .args .size / 256 % 256 ∷ []) refl (c .enum-told .given .1)
@@ -43,13 +22,5 @@ pub push-two-spec : {M : Type 1} → statement M
 push-two-spec =
     tie.close
     (tie.spec
-    cast-push-byte
-    push-byte-requires
-    enum-known-r
-    cast-push-byte-2
-    push-byte-requires-2
-    enum-told
-    same-length
-    returns
-    same-length-2
-    returns-2)
+    (λ c. search needs) (λ c κs. search needs) (λ c. search needs) (λ c. search needs) push-byte-requires-2
+    (λ c. search needs) (λ c. search needs) returns (λ c. search needs) returns-2)

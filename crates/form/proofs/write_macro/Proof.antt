@@ -11,47 +11,14 @@ use Rattle.form.proofs.Formed.{form-at, form-short}
 use Rattle.form.proofs.write_macro.Statement.{statement}
 use Rattle.form.proofs.write_macro.Tie as tie
 
-push-head-requires : tie.Need-push-head-requires
-push-head-requires c κs = search needs
-
-enum-known-r : tie.Need-enum-known-r
-enum-known-r c = search needs
-
 push-text-requires : tie.Need-push-text-requires
 push-text-requires c κs = let a = c .before .before .before .before .before .before .before .before .before .before .before .before .before .before .before .args in let k = c .before .before .before .before .before .before .before .before .before .before .before .before .before .before .before .pre .1 in put-past (put-so _ _ _ _ _ _ (c .before .before .before .before .before .before .before .before .before .push-head .ensures (k .formals) (a .text) (k .shape) (k .number)) (c .before .before .before .r .given .1)) (omega arith)
-
-enum-known-q : tie.Need-enum-known-q
-enum-known-q c = search needs
-
-enum-told : tie.Need-enum-told
-enum-told c = search needs
-
-enum-told-2 : tie.Need-enum-told-2
-enum-told-2 c = search needs
-
-same-length : tie.Need-same-length
-same-length c = search needs
-
-same-length-2 : tie.Need-same-length-2
-same-length-2 c = search needs
 
 returns : tie.Need-returns
 returns c fs p q = let a = c .before .before .before .before .before .before .before .before .before .before .before .before .before .before .before .before .before .before .before .before .before .before .before .args in form-at (part (a .s .now) (a .h .from) (a .h .end)) (parametersOf (a .s .now) fs) (stored (a .s .now) (a .text) (a .end)) (a .out .now) (put-so _ _ _ _ _ _ (c .before .before .before .before .before .before .before .before .before .before .before .before .before .before .before .before .before .push-head .ensures fs (a .text) p q) (c .before .before .before .before .before .before .before .before .before .before .before .r .given .1)) (omega arith) (put-so _ _ _ _ _ _ (c .before .before .before .before .before .before .before .push-text .ensures) (c .before .q .given .1))
 
-same-length-3 : tie.Need-same-length-3
-same-length-3 c = search needs
-
-same-length-4 : tie.Need-same-length-4
-same-length-4 c = search needs
-
 returns-2 : tie.Need-returns-2
 returns-2 c fs p q = let a = c .before .before .before .before .before .before .before .before .before .before .before .before .before .before .before .before .before .before .before .before .before .before .args in form-short (part (a .s .now) (a .h .from) (a .h .end)) (parametersOf (a .s .now) fs) (stored (a .s .now) (a .text) (a .end)) (a .out .now) (put-short _ _ _ _ _ _ (by-then (put-so _ _ _ _ _ _ (c .before .before .before .before .before .before .before .before .before .before .before .before .before .before .before .before .push-head .ensures fs (a .text) p q) (c .before .before .before .before .before .before .before .before .before .before .r .given .1)) (omega arith) (λ l. omega arith) (c .before .before .before .before .before .before .push-text .last .1 .1 .1 .1 .0) (stored (a .s .now) (a .text) (a .end)) refl (c .before .before .before .before .before .before .push-text .result) (c .before .before .before .before .before .before .push-text .ensures)) (c .enum-told .given .1))
-
-same-length-5 : tie.Need-same-length-5
-same-length-5 c = search needs
-
-same-length-6 : tie.Need-same-length-6
-same-length-6 c = search needs
 
 returns-3 : tie.Need-returns-3
 returns-3 c fs p q = let a = c .before .before .before .before .before .before .before .before .before .before .before .before .args in form-short (part (a .s .now) (a .h .from) (a .h .end)) (parametersOf (a .s .now) fs) (stored (a .s .now) (a .text) (a .end)) (a .out .now) (put-not _ _ _ _ _ _ (c .before .before .before .before .before .before .push-head .ensures fs (a .text) p q) (λ l. l) (stored (a .s .now) (a .text) (a .end)) refl (c .enum-told2 .given .1))
@@ -60,18 +27,6 @@ pub write-macro-spec : {M : Type 1} → statement M
 write-macro-spec =
     tie.close
     (tie.spec
-    push-head-requires
-    enum-known-r
-    push-text-requires
-    enum-known-q
-    enum-told
-    enum-told-2
-    same-length
-    same-length-2
-    returns
-    same-length-3
-    same-length-4
-    returns-2
-    same-length-5
-    same-length-6
-    returns-3)
+    (λ c κs. search needs) (λ c. search needs) push-text-requires (λ c. search needs) (λ c. search needs)
+    (λ c. search needs) (λ c. search needs) (λ c. search needs) returns (λ c. search needs) (λ c. search needs)
+    returns-2 (λ c. search needs) (λ c. search needs) returns-3)

@@ -17,23 +17,8 @@ Inv-loop records at i₀ i = allBlank (drop i records) ≡ allBlank (drop at rec
 abbrev μ-loop : tie.MeasureT-loop
 μ-loop records at i₀ i = length records - i
 
-loop-holds : tie.Need-loop-holds Inv-loop μ-loop
-loop-holds c = refl
-
-read-requires : tie.Need-read-requires Inv-loop μ-loop
-read-requires c κs = search needs
-
-is-blank-requires : tie.Need-is-blank-requires Inv-loop μ-loop
-is-blank-requires c κs = search needs
-
 returns : tie.Need-returns Inv-loop μ-loop
 returns c = each-no each-blank _ _ blankRecord (c .before .before .before .loop-test .taken) (row-other (c .before .before .read .ensures) (c .before .is-blank .ensures) (c .if1 .taken)) ∙ c .before .before .before .before .loop .inv
-
-add-i : tie.Need-add-i Inv-loop μ-loop
-add-i c = search needs
-
-loop-less : tie.Need-loop-less Inv-loop μ-loop
-loop-less c = search needs
 
 loop-again : tie.Need-loop-again Inv-loop μ-loop
 loop-again c = each-next each-blank _ _ blankRecord (c .before .before .before .loop-test .taken) (row-blank (c .before .before .read .ensures) (c .before .is-blank .ensures) (c .if1 .left)) ∙ c .before .before .before .before .loop .inv
@@ -45,13 +30,5 @@ pub all-blank-spec : {M : Type 1} → statement M
 all-blank-spec =
     tie.close
     (tie.spec
-    Inv-loop
-    μ-loop
-    loop-holds
-    read-requires
-    is-blank-requires
-    returns
-    add-i
-    loop-less
-    loop-again
-    returns-2)
+    Inv-loop μ-loop (λ c. refl) (λ c κs. search needs) (λ c κs. search needs) returns (λ c. search needs)
+    (λ c. search needs) loop-again returns-2)

@@ -15,23 +15,8 @@ Inv-loop w i₀ i = allSolid (drop i w) ≡ allSolid w
 abbrev μ-loop : tie.MeasureT-loop
 μ-loop w i₀ i = length w - i
 
-loop-holds : tie.Need-loop-holds Inv-loop μ-loop
-loop-holds c = refl
-
-shared-slice-read-if1 : tie.Need-shared-slice-read-if1 Inv-loop μ-loop
-shared-slice-read-if1 c = search needs
-
-shared-slice-read-if1-2 : tie.Need-shared-slice-read-if1-2 Inv-loop μ-loop
-shared-slice-read-if1-2 c = search needs
-
 returns : tie.Need-returns Inv-loop μ-loop
 returns c = each-no each-solid _ _ 0 (c .before .before .before .loop-test .taken) (not-solid (getD (c .before .before .before .before .before .args .w .now) (c .before .before .before .before .loop .i) 0) (c .if1 .taken)) ∙ c .before .before .before .before .loop .inv
-
-add-i : tie.Need-add-i Inv-loop μ-loop
-add-i c = search needs
-
-loop-less : tie.Need-loop-less Inv-loop μ-loop
-loop-less c = search needs
 
 loop-again : tie.Need-loop-again Inv-loop μ-loop
 loop-again c = each-next each-solid _ _ 0 (c .before .before .before .loop-test .taken) (is-solid (getD (c .before .before .before .before .before .args .w .now) (c .before .before .before .before .loop .i) 0) (c .if1 .left)) ∙ c .before .before .before .before .loop .inv
@@ -43,13 +28,5 @@ pub all-solid-spec : {M : Type 1} → statement M
 all-solid-spec =
     tie.close
     (tie.spec
-    Inv-loop
-    μ-loop
-    loop-holds
-    shared-slice-read-if1
-    shared-slice-read-if1-2
-    returns
-    add-i
-    loop-less
-    loop-again
-    returns-2)
+    Inv-loop μ-loop (λ c. refl) (λ c. search needs) (λ c. search needs) returns (λ c. search needs)
+    (λ c. search needs) loop-again returns-2)

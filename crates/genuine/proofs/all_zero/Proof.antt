@@ -16,20 +16,8 @@ Inv-loop b at i₀ i = allZero (drop i b) ≡ allZero (drop at b)
 abbrev μ-loop : tie.MeasureT-loop
 μ-loop b at i₀ i = length b - i
 
-loop-holds : tie.Need-loop-holds Inv-loop μ-loop
-loop-holds c = refl
-
-shared-slice-read-if1 : tie.Need-shared-slice-read-if1 Inv-loop μ-loop
-shared-slice-read-if1 c = search needs
-
 returns : tie.Need-returns Inv-loop μ-loop
 returns c = each-no each-zero _ _ 0 (c .before .before .loop-test .taken) (ne-eqb _ _ (c .if1 .taken)) ∙ c .before .before .before .loop .inv
-
-add-i : tie.Need-add-i Inv-loop μ-loop
-add-i c = search needs
-
-loop-less : tie.Need-loop-less Inv-loop μ-loop
-loop-less c = search needs
 
 loop-again : tie.Need-loop-again Inv-loop μ-loop
 loop-again c = each-next each-zero _ _ 0 (c .before .before .loop-test .taken) (eq-eqb _ _ (c .if1 .left)) ∙ c .before .before .before .loop .inv
@@ -41,12 +29,5 @@ pub all-zero-spec : {M : Type 1} → statement M
 all-zero-spec =
     tie.close
     (tie.spec
-    Inv-loop
-    μ-loop
-    loop-holds
-    shared-slice-read-if1
-    returns
-    add-i
-    loop-less
-    loop-again
+    Inv-loop μ-loop (λ c. refl) (λ c. search needs) returns (λ c. search needs) (λ c. search needs) loop-again
     returns-2)

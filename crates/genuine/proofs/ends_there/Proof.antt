@@ -5,14 +5,8 @@ use Rattle.genuine.proofs.TestingRows.{rows-behind, bytes-behind, none-
 use Rattle.genuine.proofs.ends_there.Statement.{statement}
 use Rattle.genuine.proofs.ends_there.Tie as tie
 
-all-blank-requires : tie.Need-all-blank-requires
-all-blank-requires c κs = search needs
-
 returns : tie.Need-returns
 returns c = search rows-behind
-
-all-zero-requires : tie.Need-all-zero-requires
-all-zero-requires c κs = search needs
 
 returns-2 : tie.Need-returns-2
 returns-2 c = search bytes-behind
@@ -22,4 +16,5 @@ returns-3 c = search none-behind
 
 pub ends-there-spec : {M : Type 1} → statement M
 ends-there-spec =
-    tie.close (tie.spec all-blank-requires returns all-zero-requires returns-2 returns-3)
+    tie.close (tie.spec
+    (λ c κs. search needs) returns (λ c κs. search needs) returns-2 returns-3)

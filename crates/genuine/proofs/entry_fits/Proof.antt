@@ -8,47 +8,17 @@ use Rattle.genuine.proofs.entry_fits.Tie as tie
 returns : tie.Need-returns
 returns c = entry-apart _ _ _ _ (c .if1 .taken)
 
-add-if2 : tie.Need-add-if2
-add-if2 c = search needs
-
 returns-2 : tie.Need-returns-2
 returns-2 c = entry-over _ _ _ _ (c .before .before .if1 .left) (c .if2 .taken)
-
-add-c : tie.Need-add-c
-add-c c = search needs
-
-add-if3 : tie.Need-add-if3
-add-if3 c = search needs
 
 returns-3 : tie.Need-returns-3
 returns-3 c = entry-cut _ _ _ _ (c .before .before .before .before .before .if1 .left) (c .before .before .before .if2 .left) (c .if3 .taken)
 
-part-of-requires : tie.Need-part-of-requires
-part-of-requires c κs = search needs
-
-is-fit-name-requires : tie.Need-is-fit-name-requires
-is-fit-name-requires c κs = search needs
-
 returns-4 : tie.Need-returns-4
 returns-4 c = entry-misnamed _ _ _ _ (c .before .before .before .before .before .before .before .before .if1 .left) (c .before .before .before .before .before .before .if2 .left) (c .before .before .before .if3 .left) (c .before .before .part-of .ensures) (c .before .is-fit-name .ensures) (c .if4 .taken)
 
-part-of-requires-2 : tie.Need-part-of-requires-2
-part-of-requires-2 c κs = search needs
-
-is-before-requires : tie.Need-is-before-requires
-is-before-requires c κs = search needs
-
 returns-5 : tie.Need-returns-5
 returns-5 c = entry-unordered _ _ _ _ (c .before .before .before .before .before .before .before .before .before .before .before .if1 .left) (c .before .before .before .before .before .before .before .before .before .if2 .left) (c .before .before .before .before .before .before .if3 .left) (c .before .before .before .before .before .part-of .ensures) (c .before .before .before .before .is-fit-name .ensures) (c .before .before .before .if4 .left) (c .before .before .part-of2 .ensures) (c .before .is-before .ensures) (c .if5 .taken)
-
-body-fits-requires : tie.Need-body-fits-requires
-body-fits-requires c κs = search needs
-
-same-length : tie.Need-same-length
-same-length c = search needs
-
-same-length-2 : tie.Need-same-length-2
-same-length-2 c = search needs
 
 returns-6 : tie.Need-returns-6
 returns-6 c = entry-by _ _ _ _ (c .before .before .before .before .before .before .before .before .before .before .before .before .before .before .before .before .before .before .if1 .left) (c .before .before .before .before .before .before .before .before .before .before .before .before .before .before .before .before .if2 .left) (c .before .before .before .before .before .before .before .before .before .before .before .before .before .if3 .left) (c .before .before .before .before .before .before .before .before .before .before .before .before .part-of .ensures) (c .before .before .before .before .before .before .before .before .before .before .before .is-fit-name .ensures) (c .before .before .before .before .before .before .before .before .before .before .if4 .left) (c .before .before .before .before .before .before .before .before .before .part-of2 .ensures) (c .before .before .before .before .before .before .before .before .is-before .ensures) (c .before .before .before .before .before .before .before .if5 .left) (c .before .before .before .before .body-fits .ensures)
@@ -57,19 +27,6 @@ pub entry-fits-spec : {M : Type 1} → statement M
 entry-fits-spec =
     tie.close
     (tie.spec
-    returns
-    add-if2
-    returns-2
-    add-c
-    add-if3
-    returns-3
-    part-of-requires
-    is-fit-name-requires
-    returns-4
-    part-of-requires-2
-    is-before-requires
-    returns-5
-    body-fits-requires
-    same-length
-    same-length-2
-    returns-6)
+    returns (λ c. search needs) returns-2 (λ c. search needs) (λ c. search needs) returns-3 (λ c κs. search needs)
+    (λ c κs. search needs) returns-4 (λ c κs. search needs) (λ c κs. search needs) returns-5 (λ c κs. search needs)
+    (λ c. search needs) (λ c. search needs) returns-6)

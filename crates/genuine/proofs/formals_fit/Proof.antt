@@ -20,9 +20,6 @@ abbrev μ-loop : tie.MeasureT-loop
 loop-holds : tie.Need-loop-holds Inv-loop μ-loop
 loop-holds c = (refl, c .before .before .before .pre .0, c .before .before .before .pre .1, refl, refl)
 
-sub-c : tie.Need-sub-c Inv-loop μ-loop
-sub-c c = search needs
-
 formal-fits-requires : tie.Need-formal-fits-requires Inv-loop μ-loop
 formal-fits-requires c κs = (c .before .before .before .loop .inv .1, omega (arith, c .before .before .before .loop .inv .2), omega (arith, c .before .before .before .loop .inv .3, c .before .before .before .before .before .before .before .pre .3), omega (arith, c .before .before .before .loop .inv .4, c .before .before .before .before .before .before .before .pre .4))
 
@@ -37,9 +34,6 @@ returns c = formals-no _ _ _ _ (c .before .before .before .before .before .befor
 
 formal-end-requires : tie.Need-formal-end-requires Inv-loop μ-loop
 formal-end-requires c κs = omega (arith, c .before .before .before .before .before .before .before .before .before .loop .inv .1)
-
-loop-less : tie.Need-loop-less Inv-loop μ-loop
-loop-less c = search needs
 
 loop-again : tie.Need-loop-again Inv-loop μ-loop
 loop-again c = (formals-next _ _ _ _ (c .before .before .before .before .before .before .before .before .before .loop-test .taken) (c .before .before .before .before .before .before .formal-fits .ensures) (c .before .if1 .left) (c .formal-end .ensures) ∙ c .before .before .before .before .before .before .before .before .before .before .loop .inv .0, le-trans (fits-within (c .before .before .before .before .before .before .before .before .before .before .loop .c - 1) _ _ _ (c .before .before .before .before .before .before .formal-fits .ensures) (c .before .if1 .left) (c .formal-end .ensures)) (c .before .before .before .before .before .before .before .before .before .before .before .before .before .before .pre .2), omega (arith, c .before .before .before .before .before .before .before .before .before .before .loop .inv .2), c .before .before .before .before .before .before .formal-fits .kept .1 .1 .1 .1 .0 ∙ c .before .before .before .before .before .before .before .before .before .before .loop .inv .3, c .before .before .before .before .before .before .formal-fits .kept .1 .1 .1 .1 .1 .0 ∙ c .before .before .before .before .before .before .before .before .before .before .loop .inv .4)
@@ -57,17 +51,5 @@ pub formals-fit-spec : {M : Type 1} → statement M
 formals-fit-spec =
     tie.close
     (tie.spec
-    Inv-loop
-    μ-loop
-    loop-holds
-    sub-c
-    formal-fits-requires
-    same-length
-    same-length-2
-    returns
-    formal-end-requires
-    loop-less
-    loop-again
-    same-length-3
-    same-length-4
-    returns-2)
+    Inv-loop μ-loop loop-holds (λ c. search needs) formal-fits-requires same-length same-length-2 returns
+    formal-end-requires (λ c. search needs) loop-again same-length-3 same-length-4 returns-2)

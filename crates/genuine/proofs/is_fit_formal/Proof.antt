@@ -5,23 +5,14 @@ use Rattle.genuine.proofs.TestingNames.{formal-long, formal-some, forma
 use Rattle.genuine.proofs.is_fit_formal.Statement.{statement}
 use Rattle.genuine.proofs.is_fit_formal.Tie as tie
 
-is-short-requires : tie.Need-is-short-requires
-is-short-requires c κs = search needs
-
 returns : tie.Need-returns
 returns c = search formal-long
 
 shared-slice-read-is-start : tie.Need-shared-slice-read-is-start
 shared-slice-read-is-start c = search formal-some
 
-is-start-requires : tie.Need-is-start-requires
-is-start-requires c κs = search needs
-
 returns-2 : tie.Need-returns-2
 returns-2 c = search formal-torn
-
-all-run-requires : tie.Need-all-run-requires
-all-run-requires c κs = search needs
 
 returns-3 : tie.Need-returns-3
 returns-3 c = search formal-by
@@ -30,10 +21,5 @@ pub is-fit-formal-spec : {M : Type 1} → statement M
 is-fit-formal-spec =
     tie.close
     (tie.spec
-    is-short-requires
-    returns
-    shared-slice-read-is-start
-    is-start-requires
-    returns-2
-    all-run-requires
-    returns-3)
+    (λ c κs. search needs) returns shared-slice-read-is-start (λ c κs. search needs) returns-2
+    (λ c κs. search needs) returns-3)

@@ -19,23 +19,8 @@ abbrev μ-loop : tie.MeasureT-loop
 loop-holds : tie.Need-loop-holds Inv-loop μ-loop
 loop-holds c = (refl, le-refl _)
 
-formal-name-requires : tie.Need-formal-name-requires Inv-loop μ-loop
-formal-name-requires c κs = search needs
-
-same-requires : tie.Need-same-requires Inv-loop μ-loop
-same-requires c κs = search needs
-
 returns : tie.Need-returns Inv-loop μ-loop
 returns c = named-hit _ _ _ (c .before .before .formal-name .ensures) (c .before .same .ensures) _ (c .before .before .before .loop-test .taken) (c .if1 .taken) ∙ c .before .before .before .before .loop .inv .0
-
-formal-end-requires : tie.Need-formal-end-requires Inv-loop μ-loop
-formal-end-requires c κs = search needs
-
-sub-c : tie.Need-sub-c Inv-loop μ-loop
-sub-c c = search needs
-
-loop-less : tie.Need-loop-less Inv-loop μ-loop
-loop-less c = search needs
 
 loop-again : tie.Need-loop-again Inv-loop μ-loop
 loop-again c = (named-next _ _ _ (c .before .before .before .formal-name .ensures) (c .before .before .same .ensures) _ (c .before .before .before .before .loop-test .taken) (c .before .if1 .left) (c .formal-end .ensures) ∙ c .before .before .before .before .before .loop .inv .0, omega (arith, c .formal-end .ensures .1, c .before .before .before .before .loop-test .taken, c .before .before .before .before .before .loop .inv .1))
@@ -47,14 +32,5 @@ pub named-from-spec : {M : Type 1} → statement M
 named-from-spec =
     tie.close
     (tie.spec
-    Inv-loop
-    μ-loop
-    loop-holds
-    formal-name-requires
-    same-requires
-    returns
-    formal-end-requires
-    sub-c
-    loop-less
-    loop-again
-    returns-2)
+    Inv-loop μ-loop loop-holds (λ c κs. search needs) (λ c κs. search needs) returns (λ c κs. search needs)
+    (λ c. search needs) (λ c. search needs) loop-again returns-2)

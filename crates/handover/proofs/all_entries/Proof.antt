@@ -16,26 +16,8 @@ Inv-loop s table i₀ i = allEntries s (drop i table) ≡ allEntries s table
 abbrev μ-loop : tie.MeasureT-loop
 μ-loop s table i₀ i = length table - i
 
-loop-holds : tie.Need-loop-holds Inv-loop μ-loop
-loop-holds c = refl
-
-mul-is-entry : tie.Need-mul-is-entry Inv-loop μ-loop
-mul-is-entry c = search needs
-
-shared-slice-copy-out-is-entry : tie.Need-shared-slice-copy-out-is-entry Inv-loop μ-loop
-shared-slice-copy-out-is-entry c = search needs
-
-is-entry-requires : tie.Need-is-entry-requires Inv-loop μ-loop
-is-entry-requires c κs = search needs
-
 returns : tie.Need-returns Inv-loop μ-loop
 returns c = let a = c .before .before .before .before .before .before .args in sym (entries-none (a .s .now) (a .table .now) (c .before .before .before .before .loop .i) [] (c .before .before .before .loop-test .taken) (c .before .is-entry .ensures) (c .if1 .taken)) ∙ c .before .before .before .before .loop .inv
-
-add-i : tie.Need-add-i Inv-loop μ-loop
-add-i c = search needs
-
-loop-less : tie.Need-loop-less Inv-loop μ-loop
-loop-less c = search needs
 
 loop-again : tie.Need-loop-again Inv-loop μ-loop
 loop-again c = let a = c .before .before .before .before .before .before .args in sym (entries-more (a .s .now) (a .table .now) (c .before .before .before .before .loop .i) [] (c .before .before .before .loop-test .taken) (c .before .is-entry .ensures) (c .if1 .left)) ∙ c .before .before .before .before .loop .inv
@@ -47,14 +29,5 @@ pub all-entries-spec : {M : Type 1} → statement M
 all-entries-spec =
     tie.close
     (tie.spec
-    Inv-loop
-    μ-loop
-    loop-holds
-    mul-is-entry
-    shared-slice-copy-out-is-entry
-    is-entry-requires
-    returns
-    add-i
-    loop-less
-    loop-again
-    returns-2)
+    Inv-loop μ-loop (λ c. refl) (λ c. search needs) (λ c. search needs) (λ c κs. search needs) returns
+    (λ c. search needs) (λ c. search needs) loop-again returns-2)

@@ -17,26 +17,8 @@ Inv-loop s table form w i₀ i = i + entryOf s form w (drop i table) ≡ entryOf
 abbrev μ-loop : tie.MeasureT-loop
 μ-loop s table form w i₀ i = length table - i
 
-loop-holds : tie.Need-loop-holds Inv-loop μ-loop
-loop-holds c = omega arith
-
-mul-is-named : tie.Need-mul-is-named Inv-loop μ-loop
-mul-is-named c = search needs
-
-shared-slice-copy-out-is-named : tie.Need-shared-slice-copy-out-is-named Inv-loop μ-loop
-shared-slice-copy-out-is-named c = search needs
-
-is-named-requires : tie.Need-is-named-requires Inv-loop μ-loop
-is-named-requires c κs = search needs
-
 returns : tie.Need-returns Inv-loop μ-loop
 returns c = let a = c .before .before .before .before .before .before .before .args in named-here (a .s .now) (a .form) (a .w .now) (a .table .now) (c .before .before .before .before .loop .i) (c .before .before .before .before .loop .inv) [] (c .before .before .before .loop-test .taken) (c .before .is-named .ensures) (c .if1 .taken)
-
-add-i : tie.Need-add-i Inv-loop μ-loop
-add-i c = search needs
-
-loop-less : tie.Need-loop-less Inv-loop μ-loop
-loop-less c = search needs
 
 loop-again : tie.Need-loop-again Inv-loop μ-loop
 loop-again c = let a = c .before .before .before .before .before .before .before .args in named-more (a .s .now) (a .form) (a .w .now) (a .table .now) (c .before .before .before .before .loop .i) (c .before .before .before .before .loop .inv) [] (c .before .before .before .loop-test .taken) (c .before .is-named .ensures) (c .if1 .left)
@@ -48,14 +30,5 @@ pub entry-of-spec : {M : Type 1} → statement M
 entry-of-spec =
     tie.close
     (tie.spec
-    Inv-loop
-    μ-loop
-    loop-holds
-    mul-is-named
-    shared-slice-copy-out-is-named
-    is-named-requires
-    returns
-    add-i
-    loop-less
-    loop-again
-    returns-2)
+    Inv-loop μ-loop (λ c. omega arith) (λ c. search needs) (λ c. search needs) (λ c κs. search needs) returns
+    (λ c. search needs) (λ c. search needs) loop-again returns-2)

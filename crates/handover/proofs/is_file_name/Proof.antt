@@ -21,20 +21,8 @@ returns c = name-unsized (c .before .before .args .w .now) (c .if1 .taken)
 loop-holds : tie.Need-loop-holds Inv-loop μ-loop
 loop-holds c = name-sized (c .before .before .args .w .now) (c .if1 .left)
 
-shared-slice-read-is-name-byte : tie.Need-shared-slice-read-is-name-byte Inv-loop μ-loop
-shared-slice-read-is-name-byte c = search needs
-
-is-name-byte-requires : tie.Need-is-name-byte-requires Inv-loop μ-loop
-is-name-byte-requires c κs = search needs
-
 returns-2 : tie.Need-returns-2 Inv-loop μ-loop
 returns-2 c = sym (bytes-none (c .before .before .before .before .before .before .before .args .w .now) (c .before .before .before .before .loop .i) (c .before .before .before .loop-test .taken) (c .before .is-name-byte .ensures) (c .if2 .taken)) ∙ c .before .before .before .before .loop .inv
-
-add-i : tie.Need-add-i Inv-loop μ-loop
-add-i c = search needs
-
-loop-less : tie.Need-loop-less Inv-loop μ-loop
-loop-less c = search needs
 
 loop-again : tie.Need-loop-again Inv-loop μ-loop
 loop-again c = sym (bytes-more (c .before .before .before .before .before .before .before .args .w .now) (c .before .before .before .before .loop .i) (c .before .before .before .loop-test .taken) (c .before .is-name-byte .ensures) (c .if2 .left)) ∙ c .before .before .before .before .loop .inv
@@ -46,14 +34,5 @@ pub is-file-name-spec : {M : Type 1} → statement M
 is-file-name-spec =
     tie.close
     (tie.spec
-    Inv-loop
-    μ-loop
-    returns
-    loop-holds
-    shared-slice-read-is-name-byte
-    is-name-byte-requires
-    returns-2
-    add-i
-    loop-less
-    loop-again
-    returns-3)
+    Inv-loop μ-loop returns loop-holds (λ c. search needs) (λ c κs. search needs) returns-2 (λ c. search needs)
+    (λ c. search needs) loop-again returns-3)

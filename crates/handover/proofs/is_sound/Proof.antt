@@ -11,14 +11,8 @@ returns c limit map = sound-unfilled _ _ (c .if1 .taken)
 returns-2 : tie.Need-returns-2
 returns-2 c limit map = sound-unsized _ _ (c .before .if1 .left) (c .if2 .taken)
 
-all-entries-requires : tie.Need-all-entries-requires
-all-entries-requires c κs = search needs
-
 returns-3 : tie.Need-returns-3
 returns-3 c limit map = sound-unlisted _ _ (c .before .before .before .if1 .left) (c .before .before .if2 .left) (c .before .all-entries .ensures) (c .if3 .taken)
-
-starts-fit-requires : tie.Need-starts-fit-requires
-starts-fit-requires c κs = search needs
 
 returns-4 : tie.Need-returns-4
 returns-4 c limit map = sound-started _ _ (c .before .before .before .before .if1 .left) (c .before .before .before .if2 .left) (c .before .before .all-entries .ensures) (c .before .if3 .left) (c .starts-fit .ensures)
@@ -26,4 +20,5 @@ returns-4 c limit map = sound-started _ _ (c .before .before .before .before .if
 pub is-sound-spec : {M : Type 1} → statement M
 is-sound-spec =
     tie.close
-    (tie.spec returns returns-2 all-entries-requires returns-3 starts-fit-requires returns-4)
+    (tie.spec
+    returns returns-2 (λ c κs. search needs) returns-3 (λ c κs. search needs) returns-4)

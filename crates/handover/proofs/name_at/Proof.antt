@@ -9,18 +9,10 @@ use borrow.Author.Needs.{needs}
 use Rattle.handover.proofs.name_at.Statement.{statement}
 use Rattle.handover.proofs.name_at.Tie as tie
 
-mul-name-in : tie.Need-mul-name-in
-mul-name-in c = search needs
-
-shared-slice-copy-out-name-in : tie.Need-shared-slice-copy-out-name-in
-shared-slice-copy-out-name-in c = search needs
-
-name-in-requires : tie.Need-name-in-requires
-name-in-requires c κs = search needs
-
 returns : tie.Need-returns
 returns c = let a = c .before .before .before .args in c .name-in .ensures ∙ ap (λ (v : List ℕ). entryName (a .s .now) v) (read-any (a .table .now) (a .i) [] blankEntry (c .before .before .before .pre))
 
 pub name-at-spec : {M : Type 1} → statement M
 name-at-spec =
-    tie.close (tie.spec mul-name-in shared-slice-copy-out-name-in name-in-requires returns)
+    tie.close (tie.spec
+    (λ c. search needs) (λ c. search needs) (λ c κs. search needs) returns)

@@ -13,29 +13,11 @@ Inv-loop path text₀ i₀ text i = 4096 ≡ length text
 abbrev μ-loop : tie.MeasureT-loop
 μ-loop path text₀ i₀ text i = length path - i
 
-buffer-requires : tie.Need-buffer-requires Inv-loop μ-loop
-buffer-requires c κs = tt
-
 loop-holds : tie.Need-loop-holds Inv-loop μ-loop
 loop-holds c = c .buffer .ensures
 
-shared-slice-read-text : tie.Need-shared-slice-read-text Inv-loop μ-loop
-shared-slice-read-text c = omega arith
-
-array-write-text : tie.Need-array-write-text Inv-loop μ-loop
-array-write-text c = omega arith
-
-add-i : tie.Need-add-i Inv-loop μ-loop
-add-i c = omega arith
-
-loop-less : tie.Need-loop-less Inv-loop μ-loop
-loop-less c = omega arith
-
 loop-again : tie.Need-loop-again Inv-loop μ-loop
 loop-again c = c .before .before .before .loop .inv ∙ sym (length-set (c .before .before .before .loop .text) _ _)
-
-array-write-text-2 : tie.Need-array-write-text-2 Inv-loop μ-loop
-array-write-text-2 c = omega arith
 
 returns : tie.Need-returns Inv-loop μ-loop
 returns c = getD-set-same (c .before .loop .text) 4095 0 1 (omega (arith, c .before .loop .inv))
@@ -44,14 +26,5 @@ pub ended-spec : {M : Type 1} → statement M
 ended-spec =
     tie.close
     (tie.spec
-    Inv-loop
-    μ-loop
-    buffer-requires
-    loop-holds
-    shared-slice-read-text
-    array-write-text
-    add-i
-    loop-less
-    loop-again
-    array-write-text-2
-    returns)
+    Inv-loop μ-loop (λ c κs. tt) loop-holds (λ c. omega arith) (λ c. omega arith) (λ c. omega arith)
+    (λ c. omega arith) loop-again (λ c. omega arith) returns)

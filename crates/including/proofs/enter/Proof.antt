@@ -7,14 +7,8 @@ use borrow.Author.Needs.{needs}
 use Rattle.including.proofs.enter.Statement.{statement}
 use Rattle.including.proofs.enter.Tie as tie
 
-is-barred-requires : tie.Need-is-barred-requires
-is-barred-requires c κs = search needs
-
 returns : tie.Need-returns
 returns c = let a = c .before .before .before .before .before .args in enter-barred _ _ _ _ _ _ (a .l) (a .form) (a .w .now) (sym (c .before .is-barred .ensures) ∙ c .if1 .taken)
-
-entry-of-requires : tie.Need-entry-of-requires
-entry-of-requires c κs = search needs
 
 returns-2 : tie.Need-returns-2
 returns-2 c = let a = c .before .before .before .before .before .before .before .args in enter-missing _ (a .table .now) _ _ _ (a .depth) (a .l) _ _ (c .before .entry-of .result) (sym (c .before .before .before .is-barred .ensures) ∙ c .before .before .if1 .left) (c .before .entry-of .ensures) (omega (arith, c .if2 .taken))
@@ -27,4 +21,5 @@ returns-4 c = let a = c .before .before .before .before .before .before .before 
 
 pub enter-spec : {M : Type 1} → statement M
 enter-spec =
-    tie.close (tie.spec is-barred-requires returns entry-of-requires returns-2 returns-3 returns-4)
+    tie.close (tie.spec
+    (λ c κs. search needs) returns (λ c κs. search needs) returns-2 returns-3 returns-4)

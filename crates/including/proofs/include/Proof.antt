@@ -5,32 +5,8 @@ use borrow.Author.Needs.{needs}
 use Rattle.including.proofs.include.Statement.{statement}
 use Rattle.including.proofs.include.Tie as tie
 
-include-at-requires : tie.Need-include-at-requires
-include-at-requires c κs = search needs
-
 returns : tie.Need-returns
 returns c = include-barred _ _ _ _ _ _ _ (c .before .before .before .include-at .ensures) (c .if1 .taken)
-
-enum-told : tie.Need-enum-told
-enum-told c = search needs
-
-enum-known-f : tie.Need-enum-known-f
-enum-known-f c = search needs
-
-part-of-requires : tie.Need-part-of-requires
-part-of-requires c κs = search needs
-
-enter-requires : tie.Need-enter-requires
-enter-requires c κs = search needs
-
-enum-known-f-2 : tie.Need-enum-known-f-2
-enum-known-f-2 c = search needs
-
-part-of-requires-2 : tie.Need-part-of-requires-2
-part-of-requires-2 c κs = search needs
-
-enter-requires-2 : tie.Need-enter-requires-2
-enter-requires-2 c κs = search needs
 
 returns-2 : tie.Need-returns-2
 returns-2 c = include-unnamed _ _ _ _ _ _ _ (c .before .before .before .before .before .include-at .ensures) (c .before .before .if1 .left) (c .enum-told .given .1)
@@ -45,15 +21,6 @@ pub include-spec : {M : Type 1} → statement M
 include-spec =
     tie.close
     (tie.spec
-    include-at-requires
-    returns
-    enum-told
-    enum-known-f
-    part-of-requires
-    enter-requires
-    enum-known-f-2
-    part-of-requires-2
-    enter-requires-2
-    returns-2
-    returns-3
+    (λ c κs. search needs) returns (λ c. search needs) (λ c. search needs) (λ c κs. search needs)
+    (λ c κs. search needs) (λ c. search needs) (λ c κs. search needs) (λ c κs. search needs) returns-2 returns-3
     returns-4)

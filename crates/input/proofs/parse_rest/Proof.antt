@@ -6,89 +6,29 @@ use borrow.Author.Needs.{needs}
 use Rattle.input.proofs.parse_rest.Statement.{statement}
 use Rattle.input.proofs.parse_rest.Tie as tie
 
-add-if1 : tie.Need-add-if1
-add-if1 c = search needs
-
 returns : tie.Need-returns
 returns c vs _ = let a = c .before .before .args in rest-short (a .s .now) (a .at) (a .n) vs (c .if1 .taken)
-
-two-at-requires : tie.Need-two-at-requires
-two-at-requires c κs = search needs
 
 returns-2 : tie.Need-returns-2
 returns-2 c vs _ = let a = c .before .before .before .before .args in rest-other (a .s .now) (a .at) (a .n) vs (c .before .before .if1 .left) (c .before .two-at .ensures .0) (c .if2 .taken)
 
-add-parse-bodies : tie.Need-add-parse-bodies
-add-parse-bodies c = search needs
-
-parse-bodies-requires : tie.Need-parse-bodies-requires
-parse-bodies-requires c κs = search needs
-
-enum-told : tie.Need-enum-told
-enum-told c = search needs
-
-enum-known-b : tie.Need-enum-known-b
-enum-known-b c = search needs
-
 add-if3 : tie.Need-add-if3
 add-if3 c = let a = c .before .before .before .before .before .before .before .before .before .before .args in let l = rest-within (a .s .now) (a .at) (a .n) (a .table .now) (c .before .before .before .before .parse-bodies .last .1 .1 .1 .0) (c .before .before .before .before .before .before .before .before .if1 .left) (c .before .before .before .before .before .before .before .two-at .ensures .0) (c .before .before .before .before .before .before .if2 .left) (c .before .before .before .before .parse-bodies .ensures) (c .before .b .given .1) in omega arith
-
-same-length : tie.Need-same-length
-same-length c = search needs
 
 returns-3 : tie.Need-returns-3
 returns-3 c vs _ = let a = c .before .before .before .before .before .before .before .before .before .before .before .args in rest-cut (a .s .now) (a .at) (a .n) (a .table .now) (c .before .before .before .before .before .parse-bodies .last .1 .1 .1 .0) (c .before .before .before .before .before .before .before .before .before .if1 .left) (c .before .before .before .before .before .before .before .before .two-at .ensures .0) (c .before .before .before .before .before .before .before .if2 .left) (c .before .before .before .before .before .parse-bodies .ensures) (c .before .before .b .given .1) (c .if3 .taken) vs
 
-two-at-requires-2 : tie.Need-two-at-requires-2
-two-at-requires-2 c κs = search needs
-
-add-parse-starts : tie.Need-add-parse-starts
-add-parse-starts c = search needs
-
-parse-starts-requires : tie.Need-parse-starts-requires
-parse-starts-requires c κs = search needs
-
-enum-told-2 : tie.Need-enum-told-2
-enum-told-2 c = search needs
-
-enum-known-u : tie.Need-enum-known-u
-enum-known-u c = search needs
-
-same-length-2 : tie.Need-same-length-2
-same-length-2 c = search needs
-
-same-length-3 : tie.Need-same-length-3
-same-length-3 c = search needs
-
 returns-4 : tie.Need-returns-4
 returns-4 c vs _ = let a = c .before .before .before .before .before .before .before .before .before .before .before .before .before .before .before .before .before .before .before .args in rest-longer (a .s .now) (a .at) (a .n) (a .table .now) (c .before .before .before .before .before .before .before .before .before .before .before .before .before .parse-bodies .last .1 .1 .1 .0) (c .before .before .before .before .before .before .before .before .before .before .before .before .before .before .before .before .before .if1 .left) (c .before .before .before .before .before .before .before .before .before .before .before .before .before .before .before .before .two-at .ensures .0) (c .before .before .before .before .before .before .before .before .before .before .before .before .before .before .before .if2 .left) (c .before .before .before .before .before .before .before .before .before .before .before .before .before .parse-bodies .ensures) (c .before .before .before .before .before .before .before .before .before .before .b .given .1) (c .before .before .before .before .before .parse-starts .last .1 .1 .1 .0) (c .before .before .before .before .before .before .before .before .if3 .left) (c .before .before .before .before .before .before .before .two-at2 .ensures .0) (c .before .before .before .before .before .parse-starts .ensures) (c .before .before .u .given .1) (c .if4 .taken) vs
 
-least-requires : tie.Need-least-requires
-least-requires c κs = search needs
-
-least-requires-2 : tie.Need-least-requires-2
-least-requires-2 c κs = search needs
-
-same-length-4 : tie.Need-same-length-4
-same-length-4 c = search needs
-
 returns-5 : tie.Need-returns-5
 returns-5 c vs _ = let a = c .before .before .before .before .before .before .before .before .before .args in rest-unbodied (a .s .now) (a .at) (a .n) (a .table .now) (c .before .before .before .parse-bodies .last .1 .1 .1 .0) (c .before .before .before .before .before .before .before .if1 .left) (c .before .before .before .before .before .before .two-at .ensures .0) (c .before .before .before .before .before .if2 .left) (c .before .before .before .parse-bodies .ensures) (c .enum-told .given .1) vs
-
-same-length-5 : tie.Need-same-length-5
-same-length-5 c = search needs
-
-same-length-6 : tie.Need-same-length-6
-same-length-6 c = search needs
 
 returns-6 : tie.Need-returns-6
 returns-6 c vs _ = let a = c .before .before .before .before .before .before .before .before .before .before .before .before .before .before .before .before .before .args in rest-unstarted (a .s .now) (a .at) (a .n) (a .table .now) (c .before .before .before .before .before .before .before .before .before .before .before .parse-bodies .last .1 .1 .1 .0) (c .before .before .before .before .before .before .before .before .before .before .before .before .before .before .before .if1 .left) (c .before .before .before .before .before .before .before .before .before .before .before .before .before .before .two-at .ensures .0) (c .before .before .before .before .before .before .before .before .before .before .before .before .before .if2 .left) (c .before .before .before .before .before .before .before .before .before .before .before .parse-bodies .ensures) (c .before .before .before .before .before .before .before .before .b .given .1) (c .before .before .before .parse-starts .last .1 .1 .1 .0) (c .before .before .before .before .before .before .if3 .left) (c .before .before .before .before .before .two-at2 .ensures .0) (c .before .before .before .parse-starts .ensures) (c .enum-told2 .given .1) vs
 
 same-length-7 : tie.Need-same-length-7
 same-length-7 c = search needs
-
-same-length-8 : tie.Need-same-length-8
-same-length-8 c = search needs
 
 returns-7 : tie.Need-returns-7
 returns-7 c = let a = c .before .before .before .before .before .before .before .before .before .before .before .before .before .before .before .before .before .before .before .before .before .args in rest-whole (a .s .now) (a .at) (a .n) (a .table .now) (c .before .before .before .before .before .before .before .before .before .before .before .before .before .before .before .parse-bodies .last .1 .1 .1 .0) (c .before .before .before .before .before .before .before .before .before .before .before .before .before .before .before .before .before .before .before .if1 .left) (c .before .before .before .before .before .before .before .before .before .before .before .before .before .before .before .before .before .before .two-at .ensures .0) (c .before .before .before .before .before .before .before .before .before .before .before .before .before .before .before .before .before .if2 .left) (c .before .before .before .before .before .before .before .before .before .before .before .before .before .before .before .parse-bodies .ensures) (c .before .before .before .before .before .before .before .before .before .before .before .before .b .given .1) (c .before .before .before .before .before .before .before .parse-starts .last .1 .1 .1 .0) (c .before .before .before .before .before .before .before .before .before .before .if3 .left) (c .before .before .before .before .before .before .before .before .before .two-at2 .ensures .0) (c .before .before .before .before .before .before .before .parse-starts .ensures) (c .before .before .before .before .u .given .1) (c .before .before .if4 .left) (c .before .least .ensures) (c .least2 .ensures) (same-length-7 c)
@@ -97,32 +37,8 @@ pub parse-rest-spec : {M : Type 1} → statement M
 parse-rest-spec =
     tie.close
     (tie.spec
-    add-if1
-    returns
-    two-at-requires
-    returns-2
-    add-parse-bodies
-    parse-bodies-requires
-    enum-told
-    enum-known-b
-    add-if3
-    same-length
-    returns-3
-    two-at-requires-2
-    add-parse-starts
-    parse-starts-requires
-    enum-told-2
-    enum-known-u
-    same-length-2
-    same-length-3
-    returns-4
-    least-requires
-    least-requires-2
-    same-length-4
-    returns-5
-    same-length-5
-    same-length-6
-    returns-6
-    same-length-7
-    same-length-8
-    returns-7)
+    (λ c. search needs) returns (λ c κs. search needs) returns-2 (λ c. search needs) (λ c κs. search needs)
+    (λ c. search needs) (λ c. search needs) add-if3 (λ c. search needs) returns-3 (λ c κs. search needs)
+    (λ c. search needs) (λ c κs. search needs) (λ c. search needs) (λ c. search needs) (λ c. search needs)
+    (λ c. search needs) returns-4 (λ c κs. search needs) (λ c κs. search needs) (λ c. search needs) returns-5
+    (λ c. search needs) (λ c. search needs) returns-6 same-length-7 (λ c. search needs) returns-7)

@@ -20,9 +20,6 @@ Inv-loop s at end text name₀ stack₀ i₀ q₀ marks₀ name stack i q marks 
 abbrev μ-loop : tie.MeasureT-loop
 μ-loop s at end text name₀ stack₀ i₀ q₀ marks₀ name stack i q marks = end - i
 
-begin-requires : tie.Need-begin-requires Inv-loop μ-loop
-begin-requires c κs = search needs
-
 loop-holds : tie.Need-loop-holds Inv-loop μ-loop
 loop-holds c = feeding-starts (c .begin .ensures) (c .before .before .before .before .pre)
 
@@ -38,12 +35,6 @@ same-length-2 c = c .before .before .before .before .loop .inv .same-stack
 returns : tie.Need-returns Inv-loop μ-loop
 unfolding stored
 returns c = judged-end _ _ _ _ _ _ (c .before .before .before .before .loop .inv) (pieces-out _ _ _ _ (c .before .before .if1 .taken)) (c .end-verdict .ensures)
-
-in-definition-requires : tie.Need-in-definition-requires Inv-loop μ-loop
-in-definition-requires c κs = search needs
-
-token-at-requires : tie.Need-token-at-requires Inv-loop μ-loop
-token-at-requires c κs = search needs
 
 end-verdict-requires-2 : tie.Need-end-verdict-requires-2 Inv-loop μ-loop
 end-verdict-requires-2 c κs = sound-count (c .before .before .before .before .before .before .before .loop .inv .sound)
@@ -61,20 +52,11 @@ returns-2 c = judged-end _ _ _ _ _ _ (c .before .before .before .before .before 
 read-piece-requires : tie.Need-read-piece-requires Inv-loop μ-loop
 read-piece-requires c κs = c .before .before .before .before .before .before .before .before .loop .inv .sound
 
-enum-known-f : tie.Need-enum-known-f Inv-loop μ-loop
-enum-known-f c = search needs
-
-marks-after-requires : tie.Need-marks-after-requires Inv-loop μ-loop
-marks-after-requires c κs = search needs
-
 loop-less : tie.Need-loop-less Inv-loop μ-loop
 loop-less c = omega (arith, c .before .before .before .before .before .before .before .before .before .before .before .before .before .before .before .before .loop-test .taken, token-past _ _ _ _ (c .before .before .before .before .before .before .before .before .before .before .before .before .before .token-at .ensures) (c .before .before .before .before .before .before .before .before .before .before .before .before .before .before .before .if1 .left))
 
 loop-again : tie.Need-loop-again Inv-loop μ-loop
 loop-again c = feeding-next (c .before .before .before .before .before .before .before .before .before .before .before .before .before .before .before .before .before .loop .inv) (piece (c .before .before .before .before .before .before .before .before .before .before .before .before .before .before .before .before .before .before .before .before .before .before .args .s .now) (c .before .before .before .before .before .before .before .before .before .before .before .before .before .before .before .before .before .loop .marks) (c .before .before .before .before .before .before .before .before .before .before .before .before .before .token-at .result)) _ (pieces-next _ _ _ _ _ _ (c .before .before .before .before .before .before .before .before .before .before .before .before .before .before .in-definition .ensures) (c .before .before .before .before .before .before .before .before .before .before .before .before .before .token-at .ensures) (c .before .before .before .before .before .before .before .before .before .before .before .before .before .before .before .if1 .left) (c .before .before .before .before .before .before .before .before .before .before .before .if2 .left) (c .before .before .before .before .before .before .before .before .before .before .before .before .before .before .before .before .loop-test .taken) _ (c .marks-after .ensures)) _ _ _ (c .before .before .before .before .before .before .before .before .read-piece .ensures) (c .before .before .f .given .1) (c .before .before .before .before .before .before .before .before .read-piece .kept .1 .1 .1 .1 .0) (c .before .before .before .before .before .before .before .before .read-piece .kept .1 .1 .1 .1 .1 .0)
-
-enum-told : tie.Need-enum-told Inv-loop μ-loop
-enum-told c = search needs
 
 same-length-5 : tie.Need-same-length-5 Inv-loop μ-loop
 same-length-5 c = c .before .before .before .before .before .before .read-piece .kept .1 .1 .1 .1 .0 ∙ c .before .before .before .before .before .before .before .before .before .before .before .before .before .before .before .loop .inv .same-name
@@ -103,30 +85,7 @@ pub judge-stored-spec : {M : Type 1} → statement M
 judge-stored-spec =
     tie.close
     (tie.spec
-    Inv-loop
-    μ-loop
-    begin-requires
-    loop-holds
-    end-verdict-requires
-    same-length
-    same-length-2
-    returns
-    in-definition-requires
-    token-at-requires
-    end-verdict-requires-2
-    same-length-3
-    same-length-4
-    returns-2
-    read-piece-requires
-    enum-known-f
-    marks-after-requires
-    loop-less
-    loop-again
-    enum-told
-    same-length-5
-    same-length-6
-    returns-3
-    end-verdict-requires-3
-    same-length-7
-    same-length-8
-    returns-4)
+    Inv-loop μ-loop (λ c κs. search needs) loop-holds end-verdict-requires same-length same-length-2 returns
+    (λ c κs. search needs) (λ c κs. search needs) end-verdict-requires-2 same-length-3 same-length-4 returns-2
+    read-piece-requires (λ c. search needs) (λ c κs. search needs) loop-less loop-again (λ c. search needs)
+    same-length-5 same-length-6 returns-3 end-verdict-requires-3 same-length-7 same-length-8 returns-4)

@@ -11,35 +11,14 @@ use Rattle.judging.proofs.Verdicts.{feeding-starts, sound-count, judged
 use Rattle.judging.proofs.judge_whole.Statement.{statement}
 use Rattle.judging.proofs.judge_whole.Tie as tie
 
-begin-requires : tie.Need-begin-requires
-begin-requires c κs = search needs
-
 read-part-requires : tie.Need-read-part-requires
 read-part-requires c κs = feeding-starts {whole = []} (c .before .before .begin .ensures) (c .before .before .before .before .before .before .pre) .sound
-
-enum-known-f : tie.Need-enum-known-f
-enum-known-f c = search needs
 
 end-verdict-requires : tie.Need-end-verdict-requires
 end-verdict-requires c κs = sound-count ((feeding-next (feeding-starts (c .before .before .before .before .before .before .before .before .before .before .before .begin .ensures) (c .before .before .before .before .before .before .before .before .before .before .before .before .before .before .before .pre)) (part (c .before .before .before .before .before .before .before .before .before .before .before .before .before .before .before .args .w .now) 0 (length (c .before .before .before .before .before .before .before .before .before .before .before .before .before .before .before .args .w .now))) [] (part-whole (c .before .before .before .before .before .before .before .before .before .before .before .before .before .before .before .args .w .now)) _ _ _ (c .before .before .before .before .before .before .before .before .read-part .ensures) (c .before .before .f .given .1) (c .before .before .before .before .before .before .before .before .read-part .kept .1 .1 .1 .1 .0) (c .before .before .before .before .before .before .before .before .read-part .kept .1 .1 .1 .1 .1 .0)) .sound)
 
-enum-told : tie.Need-enum-told
-enum-told c = search needs
-
-same-length : tie.Need-same-length
-same-length c = search needs
-
-same-length-2 : tie.Need-same-length-2
-same-length-2 c = search needs
-
 returns : tie.Need-returns
 returns c = judged-end _ _ _ _ _ _ (feeding-next (feeding-starts (c .before .before .before .before .before .before .before .before .before .before .before .before .begin .ensures) (c .before .before .before .before .before .before .before .before .before .before .before .before .before .before .before .before .pre)) (part (c .before .before .before .before .before .before .before .before .before .before .before .before .before .before .before .before .args .w .now) 0 (length (c .before .before .before .before .before .before .before .before .before .before .before .before .before .before .before .before .args .w .now))) [] (part-whole (c .before .before .before .before .before .before .before .before .before .before .before .before .before .before .before .before .args .w .now)) _ _ _ (c .before .before .before .before .before .before .before .before .before .read-part .ensures) (c .before .before .before .f .given .1) (c .before .before .before .before .before .before .before .before .before .read-part .kept .1 .1 .1 .1 .0) (c .before .before .before .before .before .before .before .before .before .read-part .kept .1 .1 .1 .1 .1 .0)) refl (c .end-verdict .ensures)
-
-same-length-3 : tie.Need-same-length-3
-same-length-3 c = search needs
-
-same-length-4 : tie.Need-same-length-4
-same-length-4 c = search needs
 
 returns-2 : tie.Need-returns-2
 returns-2 c = judged-short (le-refl _) refl (feeding-short (feeding-starts (c .before .before .before .before .before .before .before .before .before .begin .ensures) (c .before .before .before .before .before .before .before .before .before .before .before .before .before .pre)) (part (c .before .before .before .before .before .before .before .before .before .before .before .before .before .args .w .now) 0 (length (c .before .before .before .before .before .before .before .before .before .before .before .before .before .args .w .now))) [] (part-whole (c .before .before .before .before .before .before .before .before .before .before .before .before .before .args .w .now)) _ _ _ (c .before .before .before .before .before .before .read-part .ensures) (c .enum-told .given .1))
@@ -48,14 +27,5 @@ pub judge-whole-spec : {M : Type 1} → statement M
 judge-whole-spec =
     tie.close
     (tie.spec
-    begin-requires
-    read-part-requires
-    enum-known-f
-    end-verdict-requires
-    enum-told
-    same-length
-    same-length-2
-    returns
-    same-length-3
-    same-length-4
-    returns-2)
+    (λ c κs. search needs) read-part-requires (λ c. search needs) end-verdict-requires (λ c. search needs)
+    (λ c. search needs) (λ c. search needs) returns (λ c. search needs) (λ c. search needs) returns-2)

@@ -12,34 +12,13 @@ use Rattle.judging.proofs.read_escape.Tie as tie
 returns : tie.Need-returns
 returns c = simp (eq-eqb _ _ (c .if1 .taken)) (read-none _ _ _ (c .before .before .before .pre))
 
-read-byte-requires : tie.Need-read-byte-requires
-read-byte-requires c κs = search needs
-
-enum-known-f : tie.Need-enum-known-f
-enum-known-f c = search needs
-
 read-byte-requires-2 : tie.Need-read-byte-requires-2
 unfolding reading
 read-byte-requires-2 c κs = (feeding-next (feeding-first (c .before .before .before .before .before .before .before .before .before .before .before .before .before .before .before .pre)) (92 ∷ []) (c .before .before .before .before .before .before .before .before .before .before .before .before .before .before .before .args .b ∷ []) refl _ _ _ (c .before .before .before .before .before .before .before .before .before .read-byte .ensures) (c .before .before .before .f .given .1) (c .before .before .before .before .before .before .before .before .before .read-byte .kept .1 .1 .0) (c .before .before .before .before .before .before .before .before .before .read-byte .kept .1 .1 .1 .0)) .sound
 
-enum-told : tie.Need-enum-told
-enum-told c = search needs
-
-same-length : tie.Need-same-length
-same-length c = search needs
-
-same-length-2 : tie.Need-same-length-2
-same-length-2 c = search needs
-
 returns-2 : tie.Need-returns-2
 unfolding reading
 returns-2 c = simp (ne-eqb _ _ (c .before .before .before .before .before .before .before .before .before .before .before .before .before .before .before .before .before .if1 .left)) (feeding-last (feeding-next (feeding-first (c .before .before .before .before .before .before .before .before .before .before .before .before .before .before .before .before .before .before .before .before .pre)) (92 ∷ []) (c .before .before .before .before .before .before .before .before .before .before .before .before .before .before .before .before .before .before .before .before .args .b ∷ []) refl _ _ _ (c .before .before .before .before .before .before .before .before .before .before .before .before .before .before .read-byte .ensures) (c .before .before .before .before .before .before .before .before .f .given .1) (c .before .before .before .before .before .before .before .before .before .before .before .before .before .before .read-byte .kept .1 .1 .0) (c .before .before .before .before .before .before .before .before .before .before .before .before .before .before .read-byte .kept .1 .1 .1 .0)) (c .before .before .before .before .read-byte2 .last .1 .1 .0) (c .before .before .before .before .read-byte2 .last .1 .1 .1 .0) (c .before .before .before .before .read-byte2 .result) (c .before .before .before .before .read-byte2 .ensures))
-
-same-length-3 : tie.Need-same-length-3
-same-length-3 c = search needs
-
-same-length-4 : tie.Need-same-length-4
-same-length-4 c = search needs
 
 returns-3 : tie.Need-returns-3
 unfolding reading
@@ -49,14 +28,5 @@ pub read-escape-spec : {M : Type 1} → statement M
 read-escape-spec =
     tie.close
     (tie.spec
-    returns
-    read-byte-requires
-    enum-known-f
-    read-byte-requires-2
-    enum-told
-    same-length
-    same-length-2
-    returns-2
-    same-length-3
-    same-length-4
-    returns-3)
+    returns (λ c κs. search needs) (λ c. search needs) read-byte-requires-2 (λ c. search needs) (λ c. search needs)
+    (λ c. search needs) returns-2 (λ c. search needs) (λ c. search needs) returns-3)

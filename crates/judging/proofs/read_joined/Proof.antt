@@ -36,14 +36,8 @@ same-length-2 c = c .before .before .before .before .read-rest .kept .1 .1 .1 .0
 returns : tie.Need-returns Inv-loop μ-loop
 returns c = feeding-last (c .before .before .before .before .before .before .before .before .before .loop .inv) (c .before .before .before .before .read-rest .last .1 .1 .0) (c .before .before .before .before .read-rest .last .1 .1 .1 .0) (c .before .before .before .before .read-rest .result) (rw (part-out _ _ (c .before .before .before .before .before .before .before .before .before .before .before .before .before .args .end) (c .before .before .before .before .before .before .before .if1 .taken)) (c .before .before .before .before .read-rest .ensures))
 
-shared-slice-read-b : tie.Need-shared-slice-read-b Inv-loop μ-loop
-shared-slice-read-b c = search needs
-
 read-string-byte-requires : tie.Need-read-string-byte-requires Inv-loop μ-loop
 read-string-byte-requires c κs = c .before .before .before .before .before .loop .inv .sound
-
-enum-known-f : tie.Need-enum-known-f Inv-loop μ-loop
-enum-known-f c = search needs
 
 add-i : tie.Need-add-i Inv-loop μ-loop
 add-i c = omega (arith, c .before .before .before .before .before .before .before .before .before .before .before .before .loop-test .taken)
@@ -53,9 +47,6 @@ loop-less c = omega (arith, c .before .before .before .before .before .before .b
 
 loop-again : tie.Need-loop-again Inv-loop μ-loop
 loop-again c = feeding-next (c .before .before .before .before .before .before .before .before .before .before .before .before .before .loop .inv) (given (c .before .before .before .before .before .before .before .before .before .before .before .before .before .loop .escaped) (getD (c .before .before .before .before .before .before .before .before .before .before .before .before .before .before .before .before .before .args .s .now) (c .before .before .before .before .before .before .before .before .before .before .before .before .before .loop .i) 0)) _ (joined-more _ _ _ _ (c .before .before .before .before .before .before .before .before .before .before .before .before .loop-test .taken) (c .before .before .before .before .before .before .before .before .before .before .before .if1 .left)) _ _ _ (c .before .before .before .before .before .before .before .read-string-byte .ensures) (c .before .f .given .1) (c .before .before .before .before .before .before .before .read-string-byte .kept .1 .1 .1 .0) (c .before .before .before .before .before .before .before .read-string-byte .kept .1 .1 .1 .1 .0)
-
-enum-told : tie.Need-enum-told Inv-loop μ-loop
-enum-told c = search needs
 
 same-length-3 : tie.Need-same-length-3 Inv-loop μ-loop
 same-length-3 c = c .before .before .before .before .before .before .read-string-byte .kept .1 .1 .1 .0 ∙ c .before .before .before .before .before .before .before .before .before .before .before .before .loop .inv .same-name
@@ -82,24 +73,6 @@ pub read-joined-spec : {M : Type 1} → statement M
 read-joined-spec =
     tie.close
     (tie.spec
-    Inv-loop
-    μ-loop
-    loop-holds
-    read-rest-requires
-    same-length
-    same-length-2
-    returns
-    shared-slice-read-b
-    read-string-byte-requires
-    enum-known-f
-    add-i
-    loop-less
-    loop-again
-    enum-told
-    same-length-3
-    same-length-4
-    returns-2
-    read-rest-requires-2
-    same-length-5
-    same-length-6
-    returns-3)
+    Inv-loop μ-loop loop-holds read-rest-requires same-length same-length-2 returns (λ c. search needs)
+    read-string-byte-requires (λ c. search needs) add-i loop-less loop-again (λ c. search needs) same-length-3
+    same-length-4 returns-2 read-rest-requires-2 same-length-5 same-length-6 returns-3)

@@ -30,14 +30,8 @@ same-length-2 c = c .before .before .loop .inv .same-stack
 returns : tie.Need-returns Inv-loop μ-loop
 returns c = feeding-end (c .before .before .loop .inv) (part-out _ _ _ (c .if1 .taken))
 
-shared-slice-read-read-byte : tie.Need-shared-slice-read-read-byte Inv-loop μ-loop
-shared-slice-read-read-byte c = search needs
-
 read-byte-requires : tie.Need-read-byte-requires Inv-loop μ-loop
 read-byte-requires c κs = c .before .before .before .before .before .loop .inv .sound
-
-enum-known-f : tie.Need-enum-known-f Inv-loop μ-loop
-enum-known-f c = search needs
 
 add-i : tie.Need-add-i Inv-loop μ-loop
 add-i c = omega (arith, c .before .before .before .before .before .before .before .before .before .before .before .before .loop-test .taken)
@@ -48,9 +42,6 @@ loop-less c = omega (arith, c .before .before .before .before .before .before .b
 loop-again : tie.Need-loop-again Inv-loop μ-loop
 unfolding reading
 loop-again c = feeding-next (c .before .before .before .before .before .before .before .before .before .before .before .before .before .loop .inv) (_ ∷ []) _ (part-more _ _ _ (c .before .before .before .before .before .before .before .before .before .before .before .before .loop-test .taken) (c .before .before .before .before .before .before .before .before .before .before .before .if1 .left)) _ _ _ (c .before .before .before .before .before .before .before .read-byte .ensures) (c .before .f .given .1) (c .before .before .before .before .before .before .before .read-byte .kept .1 .1 .0) (c .before .before .before .before .before .before .before .read-byte .kept .1 .1 .1 .0)
-
-enum-told : tie.Need-enum-told Inv-loop μ-loop
-enum-told c = search needs
 
 same-length-3 : tie.Need-same-length-3 Inv-loop μ-loop
 same-length-3 c = c .before .before .before .before .before .before .read-byte .kept .1 .1 .0 ∙ c .before .before .before .before .before .before .before .before .before .before .before .before .loop .inv .same-name
@@ -75,22 +66,6 @@ pub read-part-spec : {M : Type 1} → statement M
 read-part-spec =
     tie.close
     (tie.spec
-    Inv-loop
-    μ-loop
-    loop-holds
-    same-length
-    same-length-2
-    returns
-    shared-slice-read-read-byte
-    read-byte-requires
-    enum-known-f
-    add-i
-    loop-less
-    loop-again
-    enum-told
-    same-length-3
-    same-length-4
-    returns-2
-    same-length-5
-    same-length-6
-    returns-3)
+    Inv-loop μ-loop loop-holds same-length same-length-2 returns (λ c. search needs) read-byte-requires
+    (λ c. search needs) add-i loop-less loop-again (λ c. search needs) same-length-3 same-length-4 returns-2
+    same-length-5 same-length-6 returns-3)

@@ -15,26 +15,11 @@ Inv-loop bytes starts firsts word version stretch k₀ k = Passed word k
 abbrev μ-loop : tie.MeasureT-loop
 μ-loop bytes starts firsts word version stretch k₀ k = stretch .end - k
 
-peek-requires : tie.Need-peek-requires Inv-loop μ-loop
-peek-requires c κs = search needs
-
-stretch-of-requires : tie.Need-stretch-of-requires Inv-loop μ-loop
-stretch-of-requires c κs = search needs
-
-cast-if1 : tie.Need-cast-if1 Inv-loop μ-loop
-cast-if1 c = search needs
-
 returns : tie.Need-returns Inv-loop μ-loop
 returns c = too-long (c .before .before .before .before .before .before .before .before .args .word .now) (rw (c .before .before .before .peek .ensures) at (c .before .before .stretch-of .ensures)) (c .before .before .before .before .before .before .before .before .args .version) (c .if1 .taken)
 
-cast-k : tie.Need-cast-k Inv-loop μ-loop
-cast-k c = search needs
-
 loop-holds : tie.Need-loop-holds Inv-loop μ-loop
 loop-holds c = passed-before (c .before .before .before .before .before .before .before .before .before .args .word .now) (rw (c .before .before .before .before .peek .ensures) at (c .before .before .before .stretch-of .ensures))
-
-cast-if2 : tie.Need-cast-if2 Inv-loop μ-loop
-cast-if2 c = search needs
 
 is-word-requires : tie.Need-is-word-requires Inv-loop μ-loop
 is-word-requires c κs = let e = c .before .before .before .before .before .before .stretch-of .ensures .in-table in (c .before .before .before .before .before .before .before .before .before .before .before .before .pre .its-bytes, c .before .before .before .before .before .before .before .before .before .before .before .before .pre .its-starts, omega arith)
@@ -51,9 +36,6 @@ returns-2 c = let e = c .before .before .before .before .before .before .before 
 add-k : tie.Need-add-k Inv-loop μ-loop
 add-k c = let e = c .before .before .before .before .before .before .before .before .stretch-of .ensures .in-table in omega arith
 
-loop-less : tie.Need-loop-less Inv-loop μ-loop
-loop-less c = omega arith
-
 loop-again : tie.Need-loop-again Inv-loop μ-loop
 loop-again c = passed-one (c .before .before .before .before .loop .inv) (sym (c .before .is-word .ensures) ∙ c .if3 .left)
 
@@ -64,20 +46,6 @@ pub is-reserved-spec : {M : Type 1} → statement M
 is-reserved-spec =
     tie.close
     (tie.spec
-    Inv-loop
-    μ-loop
-    peek-requires
-    stretch-of-requires
-    cast-if1
-    returns
-    cast-k
-    loop-holds
-    cast-if2
-    is-word-requires
-    mul-result
-    shared-slice-read-result
-    returns-2
-    add-k
-    loop-less
-    loop-again
-    returns-3)
+    Inv-loop μ-loop (λ c κs. search needs) (λ c κs. search needs) (λ c. search needs) returns (λ c. search needs)
+    loop-holds (λ c. search needs) is-word-requires mul-result shared-slice-read-result returns-2 add-k
+    (λ c. omega arith) loop-again returns-3)

@@ -6,17 +6,8 @@ use Rattle.keywords.proofs.Places.{lies, starts-number}
 use Rattle.keywords.proofs.is_word.Statement.{statement}
 use Rattle.keywords.proofs.is_word.Tie as tie
 
-mul-a : tie.Need-mul-a
-mul-a c = search needs
-
 shared-slice-read-a : tie.Need-shared-slice-read-a
 shared-slice-read-a c = omega (arith, starts-number (c .before .before .before .before .pre .1))
-
-add-e : tie.Need-add-e
-add-e c = search needs
-
-mul-e : tie.Need-mul-e
-mul-e c = search needs
 
 shared-slice-read-e : tie.Need-shared-slice-read-e
 shared-slice-read-e c = omega (arith, starts-number (c .before .before .before .before .before .pre .1))
@@ -30,9 +21,6 @@ part-same-start c = let l = lies (c .before .before .before .before .before .pre
 part-same-end : tie.Need-part-same-end
 part-same-end c = let l = lies (c .before .before .before .before .before .pre) in omega arith
 
-same-requires : tie.Need-same-requires
-same-requires c κs = search needs
-
 returns : tie.Need-returns
 returns c = rw (lies (c .before .before .before .before .before .before .before .pre) .its-part) at (c .same .ensures)
 
@@ -40,13 +28,5 @@ pub is-word-spec : {M : Type 1} → statement M
 is-word-spec =
     tie.close
     (tie.spec
-    mul-a
-    shared-slice-read-a
-    add-e
-    mul-e
-    shared-slice-read-e
-    sub-same
-    part-same-start
-    part-same-end
-    same-requires
-    returns)
+    (λ c. search needs) shared-slice-read-a (λ c. search needs) (λ c. search needs) shared-slice-read-e sub-same
+    part-same-start part-same-end (λ c κs. search needs) returns)

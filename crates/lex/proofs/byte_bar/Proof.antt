@@ -4,9 +4,6 @@ use borrow.Author.Needs.{needs}
 use Rattle.lex.proofs.byte_bar.Statement.{statement}
 use Rattle.lex.proofs.byte_bar.Tie as tie
 
-is-legal-requires : tie.Need-is-legal-requires
-is-legal-requires c κs = search needs
-
 returns : tie.Need-returns
 returns c = rw (← c .before .is-legal .ensures, c .if1 .taken)
 
@@ -14,4 +11,5 @@ returns-2 : tie.Need-returns-2
 returns-2 c = rw (← c .before .is-legal .ensures, c .if1 .left)
 
 pub byte-bar-spec : {M : Type 1} → statement M
-byte-bar-spec = tie.close (tie.spec is-legal-requires returns returns-2)
+byte-bar-spec = tie.close (tie.spec
+    (λ c κs. search needs) returns returns-2)

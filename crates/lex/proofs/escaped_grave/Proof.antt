@@ -5,52 +5,13 @@ use Rattle.lex.specs.Tokens.{escapedGrave}
 use Rattle.lex.proofs.escaped_grave.Statement.{statement}
 use Rattle.lex.proofs.escaped_grave.Tie as tie
 
-add-peek : tie.Need-add-peek
-add-peek c = search needs
-
-peek-requires : tie.Need-peek-requires
-peek-requires c κs = search needs
-
-add-peek-2 : tie.Need-add-peek-2
-add-peek-2 c = search needs
-
-peek-requires-2 : tie.Need-peek-requires-2
-peek-requires-2 c κs = search needs
-
-add-plain : tie.Need-add-plain
-add-plain c = search needs
-
-mark-bar-requires : tie.Need-mark-bar-requires
-mark-bar-requires c κs = search needs
-
-plain-requires : tie.Need-plain-requires
-plain-requires c κs = search needs
-
 returns : tie.Need-returns
 unfolding escapedGrave
 returns c = simp (← c .before .before .before .before .peek .ensures, ← c .before .before .before .peek2 .ensures, c .before .before .if1 .taken, ← c .before .mark-bar .ensures) (c .plain .ensures)
 
-add-plain-2 : tie.Need-add-plain-2
-add-plain-2 c = search needs
-
-plain-requires-2 : tie.Need-plain-requires-2
-plain-requires-2 c κs = search needs
-
 returns-2 : tie.Need-returns-2
 unfolding escapedGrave
 returns-2 c = simp (← c .before .before .before .before .peek .ensures, ← c .before .before .before .peek2 .ensures, c .before .before .if1 .left, c .before .if2 .taken) (c .plain2 .ensures)
-
-add-escaped-or : tie.Need-add-escaped-or
-add-escaped-or c = search needs
-
-add-scan-span : tie.Need-add-scan-span
-add-scan-span c = search needs
-
-scan-span-requires : tie.Need-scan-span-requires
-scan-span-requires c κs = search needs
-
-escaped-or-requires : tie.Need-escaped-or-requires
-escaped-or-requires c κs = search needs
 
 returns-3 : tie.Need-returns-3
 unfolding escapedGrave
@@ -60,19 +21,6 @@ pub escaped-grave-spec : {M : Type 1} → statement M
 escaped-grave-spec =
     tie.close
     (tie.spec
-    add-peek
-    peek-requires
-    add-peek-2
-    peek-requires-2
-    add-plain
-    mark-bar-requires
-    plain-requires
-    returns
-    add-plain-2
-    plain-requires-2
-    returns-2
-    add-escaped-or
-    add-scan-span
-    scan-span-requires
-    escaped-or-requires
-    returns-3)
+    (λ c. search needs) (λ c κs. search needs) (λ c. search needs) (λ c κs. search needs) (λ c. search needs)
+    (λ c κs. search needs) (λ c κs. search needs) returns (λ c. search needs) (λ c κs. search needs) returns-2
+    (λ c. search needs) (λ c. search needs) (λ c κs. search needs) (λ c κs. search needs) returns-3)

@@ -4,11 +4,9 @@ use borrow.Author.Needs.{needs}
 use Rattle.lex.proofs.is_legal.Statement.{statement}
 use Rattle.lex.proofs.is_legal.Tie as tie
 
-is-space-requires : tie.Need-is-space-requires
-is-space-requires c κs = search needs
-
 returns : tie.Need-returns
 returns c = rw (c .is-space .ensures)
 
 pub is-legal-spec : {M : Type 1} → statement M
-is-legal-spec = tie.close (tie.spec is-space-requires returns)
+is-legal-spec = tie.close (tie.spec
+    (λ c κs. search needs) returns)

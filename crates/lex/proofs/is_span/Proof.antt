@@ -4,11 +4,9 @@ use borrow.Author.Needs.{needs}
 use Rattle.lex.proofs.is_span.Statement.{statement}
 use Rattle.lex.proofs.is_span.Tie as tie
 
-is-white-requires : tie.Need-is-white-requires
-is-white-requires c κs = search needs
-
 returns : tie.Need-returns
 returns c = rw (c .is-white .ensures)
 
 pub is-span-spec : {M : Type 1} → statement M
-is-span-spec = tie.close (tie.spec is-white-requires returns)
+is-span-spec = tie.close (tie.spec
+    (λ c κs. search needs) returns)

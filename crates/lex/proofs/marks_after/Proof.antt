@@ -14,4 +14,5 @@ unfolding marksAfter
 returns-2 c = simp (ne-eqb _ _ (c .if1 .left))
 
 pub marks-after-spec : {M : Type 1} → statement M
-marks-after-spec = tie.close (tie.spec returns returns-2)
+marks-after-spec = tie.close (tie.spec
+    returns returns-2)

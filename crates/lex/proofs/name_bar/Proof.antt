@@ -13,9 +13,6 @@ returns c = rw (ne-eqb _ _ (c .if1 .taken))
 returns-2 : tie.Need-returns-2
 returns-2 c = rw (eq-eqb _ _ (c .before .if1 .left), le-ltb 1024 (c .before .before .args .end - c .before .before .args .from) (omega arith))
 
-sub-if3 : tie.Need-sub-if3
-sub-if3 c = search needs
-
 returns-3 : tie.Need-returns-3
 returns-3 c = rw (eq-eqb _ _ (c .before .before .if1 .left), lt-ltb _ _ (c .if3 .taken))
 
@@ -23,4 +20,5 @@ returns-4 : tie.Need-returns-4
 returns-4 c = rw (eq-eqb _ _ (c .before .before .if1 .left), le-ltb _ _ (c .if3 .left))
 
 pub name-bar-spec : {M : Type 1} → statement M
-name-bar-spec = tie.close (tie.spec returns returns-2 sub-if3 returns-3 returns-4)
+name-bar-spec = tie.close (tie.spec
+    returns returns-2 (λ c. search needs) returns-3 returns-4)

@@ -4,11 +4,9 @@ use borrow.Author.Needs.{needs}
 use Rattle.lex.proofs.named.Statement.{statement}
 use Rattle.lex.proofs.named.Tie as tie
 
-name-bar-requires : tie.Need-name-bar-requires
-name-bar-requires c κs = search needs
-
 returns : tie.Need-returns
 returns c = rw (c .name-bar .ensures)
 
 pub named-spec : {M : Type 1} → statement M
-named-spec = tie.close (tie.spec name-bar-requires returns)
+named-spec = tie.close (tie.spec
+    (λ c κs. search needs) returns)

@@ -10,4 +10,5 @@ returns-2 : tie.Need-returns-2
 returns-2 c = rw (c .if1 .left)
 
 pub scan-at-spec : {M : Type 1} → statement M
-scan-at-spec = tie.close (tie.spec returns returns-2)
+scan-at-spec = tie.close (tie.spec
+    returns returns-2)

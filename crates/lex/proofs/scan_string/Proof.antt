@@ -19,50 +19,17 @@ loop-holds : tie.Need-loop-holds Inv-loop μ-loop
 unfolding stringEnd
 loop-holds c = refl
 
-shared-slice-read-b : tie.Need-shared-slice-read-b Inv-loop μ-loop
-shared-slice-read-b c = search needs
-
-is-legal-requires : tie.Need-is-legal-requires Inv-loop μ-loop
-is-legal-requires c κs = search needs
-
-add-i : tie.Need-add-i Inv-loop μ-loop
-add-i c = search needs
-
-loop-less : tie.Need-loop-less Inv-loop μ-loop
-loop-less c = search needs
-
 loop-again : tie.Need-loop-again Inv-loop μ-loop
 loop-again c = sym (string-escaped _ _ _ _ (c .before .before .before .loop-test .taken) (c .before .if1 .taken) (c .is-legal .ensures)) ∙ c .before .before .before .before .loop .inv
-
-add-scan-at : tie.Need-add-scan-at Inv-loop μ-loop
-add-scan-at c = search needs
-
-scan-at-requires : tie.Need-scan-at-requires Inv-loop μ-loop
-scan-at-requires c κs = search needs
 
 returns : tie.Need-returns Inv-loop μ-loop
 returns c = c .scan-at .ensures ∙ (sym (string-close _ _ _ _ (c .before .before .before .before .loop-test .taken) (c .before .before .if1 .left) (c .before .if2 .taken)) ∙ c .before .before .before .before .before .loop .inv)
 
-scan-at-requires-2 : tie.Need-scan-at-requires-2 Inv-loop μ-loop
-scan-at-requires-2 c κs = search needs
-
 returns-2 : tie.Need-returns-2 Inv-loop μ-loop
 returns-2 c = c .scan-at2 .ensures ∙ (sym (string-newline _ _ _ _ (c .before .before .before .before .before .loop-test .taken) (c .before .before .before .if1 .left) (c .before .before .if2 .left) (c .before .if3 .taken)) ∙ c .before .before .before .before .before .before .loop .inv)
 
-is-legal-requires-2 : tie.Need-is-legal-requires-2 Inv-loop μ-loop
-is-legal-requires-2 c κs = search needs
-
-add-i-2 : tie.Need-add-i-2 Inv-loop μ-loop
-add-i-2 c = search needs
-
-loop-less-2 : tie.Need-loop-less-2 Inv-loop μ-loop
-loop-less-2 c = search needs
-
 loop-again-2 : tie.Need-loop-again-2 Inv-loop μ-loop
 loop-again-2 c = sym (string-more _ _ _ _ (c .before .before .before .before .before .loop-test .taken) (c .before .before .before .if1 .left) (c .before .before .if2 .left) (c .before .if3 .left) (c .is-legal2 .ensures)) ∙ c .before .before .before .before .before .before .loop .inv
-
-scan-at-requires-3 : tie.Need-scan-at-requires-3 Inv-loop μ-loop
-scan-at-requires-3 c κs = search needs
 
 returns-3 : tie.Need-returns-3 Inv-loop μ-loop
 returns-3 c = c .scan-at3 .ensures ∙ (sym (string-out _ _ _ _ (c .before .loop-test .left)) ∙ c .before .before .loop .inv)
@@ -71,22 +38,6 @@ pub scan-string-spec : {M : Type 1} → statement M
 scan-string-spec =
     tie.close
     (tie.spec
-    Inv-loop
-    μ-loop
-    loop-holds
-    shared-slice-read-b
-    is-legal-requires
-    add-i
-    loop-less
-    loop-again
-    add-scan-at
-    scan-at-requires
-    returns
-    scan-at-requires-2
-    returns-2
-    is-legal-requires-2
-    add-i-2
-    loop-less-2
-    loop-again-2
-    scan-at-requires-3
-    returns-3)
+    Inv-loop μ-loop loop-holds (λ c. search needs) (λ c κs. search needs) (λ c. search needs) (λ c. search needs)
+    loop-again (λ c. search needs) (λ c κs. search needs) returns (λ c κs. search needs) returns-2
+    (λ c κs. search needs) (λ c. search needs) (λ c. search needs) loop-again-2 (λ c κs. search needs) returns-3)

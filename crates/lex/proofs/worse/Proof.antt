@@ -22,4 +22,5 @@ unfolding worseOf
 returns-4 c = simp (ne-eqb _ _ (c .before .before .before .before .before .if1 .left), ne-eqb _ _ (c .before .before .before .if2 .left), le-ltb _ _ (c .if3 .left), le-leb _ _ (c .if3 .left))
 
 pub worse-spec : {M : Type 1} → statement M
-worse-spec = tie.close (tie.spec returns returns-2 returns-3 returns-4)
+worse-spec = tie.close (tie.spec
+    returns returns-2 returns-3 returns-4)

@@ -16,20 +16,8 @@ Inv-loop s ranges i₀ i = allStarts s (drop i ranges) ≡ allStarts s ranges
 abbrev μ-loop : tie.MeasureT-loop
 μ-loop s ranges i₀ i = length ranges - i
 
-loop-holds : tie.Need-loop-holds Inv-loop μ-loop
-loop-holds c = refl
-
-is-start-at-requires : tie.Need-is-start-at-requires Inv-loop μ-loop
-is-start-at-requires c κs = search needs
-
 returns : tie.Need-returns Inv-loop μ-loop
 returns c = let a = c .before .before .before .before .before .args in sym (starts-none (a .s .now) (a .ranges .now) (c .before .before .before .loop .i) (c .before .before .loop-test .taken) (c .before .is-start-at .ensures) (not-true _ (c .if1 .taken))) ∙ c .before .before .before .loop .inv
-
-add-i : tie.Need-add-i Inv-loop μ-loop
-add-i c = search needs
-
-loop-less : tie.Need-loop-less Inv-loop μ-loop
-loop-less c = search needs
 
 loop-again : tie.Need-loop-again Inv-loop μ-loop
 loop-again c = let a = c .before .before .before .before .before .args in sym (starts-more (a .s .now) (a .ranges .now) (c .before .before .before .loop .i) (c .before .before .loop-test .taken) (c .before .is-start-at .ensures) (not-false _ (c .if1 .left))) ∙ c .before .before .before .loop .inv
@@ -41,12 +29,5 @@ pub all-starts-spec : {M : Type 1} → statement M
 all-starts-spec =
     tie.close
     (tie.spec
-    Inv-loop
-    μ-loop
-    loop-holds
-    is-start-at-requires
-    returns
-    add-i
-    loop-less
-    loop-again
+    Inv-loop μ-loop (λ c. refl) (λ c κs. search needs) returns (λ c. search needs) (λ c. search needs) loop-again
     returns-2)

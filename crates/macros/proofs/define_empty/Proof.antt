@@ -20,44 +20,11 @@ abbrev μ-loop : tie.MeasureT-loop
 loop-holds : tie.Need-loop-holds Inv-loop μ-loop
 loop-holds c = (omega arith, refl, refl)
 
-shared-slice-read-form : tie.Need-shared-slice-read-form Inv-loop μ-loop
-shared-slice-read-form c = search needs
-
-slice-write-form : tie.Need-slice-write-form Inv-loop μ-loop
-slice-write-form c = search needs
-
-add-i : tie.Need-add-i Inv-loop μ-loop
-add-i c = search needs
-
-loop-less : tie.Need-loop-less Inv-loop μ-loop
-loop-less c = search needs
-
 loop-again : tie.Need-loop-again Inv-loop μ-loop
 loop-again c = (omega arith, simp length-set (c .before .before .loop .inv .1), copied-more (c .before .before .before .before .before .before .args .w .now) (c .before .before .loop .form) (c .before .before .loop .i) (c .before .loop-test .taken) (omega arith) (c .before .before .loop .inv .2))
 
-slice-write-form-2 : tie.Need-slice-write-form-2 Inv-loop μ-loop
-slice-write-form-2 c = search needs
-
-add-part-of : tie.Need-add-part-of Inv-loop μ-loop
-add-part-of c = search needs
-
-part-of-requires : tie.Need-part-of-requires Inv-loop μ-loop
-part-of-requires c κs = search needs
-
-add-define : tie.Need-add-define Inv-loop μ-loop
-add-define c = search needs
-
 define-requires : tie.Need-define-requires Inv-loop μ-loop
 define-requires c κs = record { small = c .before .before .before .before .before .before .before .before .before .pre .0; few = c .before .before .before .before .before .before .before .before .before .pre .1; stored = c .before .before .before .before .before .before .before .before .before .pre .2; defined = macro (c .before .before .before .before .before .before .before .before .before .args .w .now) [] []; form-of = empty-form (c .before .before .before .before .before .before .before .before .before .args .w .now) (c .before .before .before .before .before .loop .form) (c .before .before .before .before .before .loop .i) (c .before .before .before .before .before .loop .inv .0) (c .before .before .before .before .loop-test .left) (omega arith) (c .before .before .before .before .before .loop .inv .2) (c .part-of .ensures) }
-
-same-length : tie.Need-same-length Inv-loop μ-loop
-same-length c = search needs
-
-same-length-2 : tie.Need-same-length-2 Inv-loop μ-loop
-same-length-2 c = search needs
-
-same-length-3 : tie.Need-same-length-3 Inv-loop μ-loop
-same-length-3 c = search needs
 
 returns : tie.Need-returns Inv-loop μ-loop
 returns c ms h = c .before .before .before .define .ensures ms (macro (c .before .before .before .before .before .before .before .before .before .before .before .before .before .args .w .now) [] []) h (empty-form (c .before .before .before .before .before .before .before .before .before .before .before .before .before .args .w .now) (c .before .before .before .before .before .before .before .before .before .loop .form) (c .before .before .before .before .before .before .before .before .before .loop .i) (c .before .before .before .before .before .before .before .before .before .loop .inv .0) (c .before .before .before .before .before .before .before .before .loop-test .left) (omega arith) (c .before .before .before .before .before .before .before .before .before .loop .inv .2) (c .before .before .before .before .part-of .ensures))
@@ -66,20 +33,6 @@ pub define-empty-spec : {M : Type 1} → statement M
 define-empty-spec =
     tie.close
     (tie.spec
-    Inv-loop
-    μ-loop
-    loop-holds
-    shared-slice-read-form
-    slice-write-form
-    add-i
-    loop-less
-    loop-again
-    slice-write-form-2
-    add-part-of
-    part-of-requires
-    add-define
-    define-requires
-    same-length
-    same-length-2
-    same-length-3
-    returns)
+    Inv-loop μ-loop loop-holds (λ c. search needs) (λ c. search needs) (λ c. search needs) (λ c. search needs)
+    loop-again (λ c. search needs) (λ c. search needs) (λ c κs. search needs) (λ c. search needs) define-requires
+    (λ c. search needs) (λ c. search needs) (λ c. search needs) returns)

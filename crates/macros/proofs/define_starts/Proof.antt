@@ -17,35 +17,11 @@ abbrev μ-loop : tie.MeasureT-loop
 loop-holds : tie.Need-loop-holds Inv-loop μ-loop
 loop-holds c = going-none (c .before .before .before .pre)
 
-mul-range-of : tie.Need-mul-range-of Inv-loop μ-loop
-mul-range-of c = search needs
-
-shared-slice-copy-out-range-of : tie.Need-shared-slice-copy-out-range-of Inv-loop μ-loop
-shared-slice-copy-out-range-of c = search needs
-
-range-of-requires : tie.Need-range-of-requires Inv-loop μ-loop
-range-of-requires c κs = search needs
-
-plain-name-requires : tie.Need-plain-name-requires Inv-loop μ-loop
-plain-name-requires c κs = search needs
-
 define-empty-requires : tie.Need-define-empty-requires Inv-loop μ-loop
 define-empty-requires c κs = going-needs (c .before .before .before .before .before .before .before .before .before .before .before .pre) (c .before .before .before .before .before .before .before .loop .inv) (c .before .before .before .before .before .before .loop-test .taken) (c .before .before .before .before .range-of .ensures .0) (c .before .before .before .plain-name .ensures)
 
-enum-known-d : tie.Need-enum-known-d Inv-loop μ-loop
-enum-known-d c = search needs
-
-add-i : tie.Need-add-i Inv-loop μ-loop
-add-i c = search needs
-
-loop-less : tie.Need-loop-less Inv-loop μ-loop
-loop-less c = search needs
-
 loop-again : tie.Need-loop-again Inv-loop μ-loop
 loop-again c = going-next (c .before .before .before .before .before .before .before .before .before .before .before .before .before .before .before .before .before .before .before .before .pre) (c .before .before .before .before .before .before .before .before .before .before .before .before .before .before .before .before .loop .inv) (c .before .before .before .before .before .before .before .before .before .before .before .before .before .before .before .loop-test .taken) (c .before .before .before .before .before .before .before .before .before .before .before .before .before .range-of .ensures .0) (c .before .before .before .before .before .before .before .before .before .before .before .before .plain-name .ensures) (c .before .before .before .before .before .before .before .before .define-empty .ensures) (c .before .d .given .0 .0) (c .before .d .given .1) (c .before .before .before .before .before .before .before .before .define-empty .kept .1 .0) (c .before .before .before .before .before .before .before .before .define-empty .kept .1 .1 .0) (c .before .before .before .before .before .before .before .before .define-empty .kept .1 .1 .1 .1 .0)
-
-enum-told : tie.Need-enum-told Inv-loop μ-loop
-enum-told c = search needs
 
 same-length : tie.Need-same-length Inv-loop μ-loop
 same-length c = c .before .before .before .before .before .before .before .define-empty .kept .1 .0 ∙ c .before .before .before .before .before .before .before .before .before .before .before .before .before .before .before .loop .inv .bytes
@@ -75,24 +51,7 @@ pub define-starts-spec : {M : Type 1} → statement M
 define-starts-spec =
     tie.close
     (tie.spec
-    Inv-loop
-    μ-loop
-    loop-holds
-    mul-range-of
-    shared-slice-copy-out-range-of
-    range-of-requires
-    plain-name-requires
-    define-empty-requires
-    enum-known-d
-    add-i
-    loop-less
-    loop-again
-    enum-told
-    same-length
-    same-length-2
-    same-length-3
-    returns
-    same-length-4
-    same-length-5
-    same-length-6
-    returns-2)
+    Inv-loop μ-loop loop-holds (λ c. search needs) (λ c. search needs) (λ c κs. search needs)
+    (λ c κs. search needs) define-empty-requires (λ c. search needs) (λ c. search needs) (λ c. search needs)
+    loop-again (λ c. search needs) same-length same-length-2 same-length-3 returns same-length-4 same-length-5
+    same-length-6 returns-2)

@@ -5,12 +5,6 @@ use borrow.Author.Needs.{needs}
 use Rattle.macros.proofs.is_start_name.Statement.{statement}
 use Rattle.macros.proofs.is_start_name.Tie as tie
 
-in-file-requires : tie.Need-in-file-requires
-in-file-requires c κs = search needs
-
-token-at-requires : tie.Need-token-at-requires
-token-at-requires c κs = search needs
-
 returns : tie.Need-returns
 returns c = other-token (c .before .before .before .before .before .before .args .w .now) (c .before .before .before .before .in-file .ensures) (c .before .before .before .token-at .ensures) (c .if1 .taken)
 
@@ -20,12 +14,6 @@ returns-2 c = barred-token (c .before .before .before .before .before .before .b
 returns-3 : tie.Need-returns-3
 returns-3 c = short-token (c .before .before .before .before .before .before .before .before .before .before .args .w .now) (c .before .before .before .before .before .before .before .before .in-file .ensures) (c .before .before .before .before .before .before .before .token-at .ensures) (c .before .before .before .before .if1 .left) (c .before .before .if2 .left) (c .if3 .taken)
 
-plain-name-requires : tie.Need-plain-name-requires
-plain-name-requires c κs = search needs
-
-directive-of-requires : tie.Need-directive-of-requires
-directive-of-requires c κs = search needs
-
 returns-4 : tie.Need-returns-4
 returns-4 c = whole-token (c .before .before .before .before .before .before .before .before .before .before .before .before .args .w .now) (c .before .before .before .before .before .before .before .before .before .before .in-file .ensures) (c .before .before .before .before .before .before .before .before .before .token-at .ensures) (c .before .before .before .before .before .before .if1 .left) (c .before .before .before .before .if2 .left) (c .before .before .if3 .left) (c .before .plain-name .ensures) (c .directive-of .ensures)
 
@@ -33,11 +21,5 @@ pub is-start-name-spec : {M : Type 1} → statement M
 is-start-name-spec =
     tie.close
     (tie.spec
-    in-file-requires
-    token-at-requires
-    returns
-    returns-2
-    returns-3
-    plain-name-requires
-    directive-of-requires
-    returns-4)
+    (λ c κs. search needs) (λ c κs. search needs) returns returns-2 returns-3 (λ c κs. search needs)
+    (λ c κs. search needs) returns-4)

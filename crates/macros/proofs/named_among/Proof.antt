@@ -15,32 +15,8 @@ Inv-loop s ranges at w i₀ i = namedAmong s w (drop i ranges) ≡ namedAmong s 
 abbrev μ-loop : tie.MeasureT-loop
 μ-loop s ranges at w i₀ i = length ranges - i
 
-loop-holds : tie.Need-loop-holds Inv-loop μ-loop
-loop-holds c = refl
-
-mul-range-of : tie.Need-mul-range-of Inv-loop μ-loop
-mul-range-of c = search needs
-
-shared-slice-copy-out-range-of : tie.Need-shared-slice-copy-out-range-of Inv-loop μ-loop
-shared-slice-copy-out-range-of c = search needs
-
-range-of-requires : tie.Need-range-of-requires Inv-loop μ-loop
-range-of-requires c κs = search needs
-
-plain-name-requires : tie.Need-plain-name-requires Inv-loop μ-loop
-plain-name-requires c κs = search needs
-
-same-requires : tie.Need-same-requires Inv-loop μ-loop
-same-requires c κs = search needs
-
 returns : tie.Need-returns Inv-loop μ-loop
 returns c = let a = c .before .before .before .before .before .before .before .before .before .args in sym (among-hit (a .s .now) (a .ranges .now) (c .before .before .before .before .before .before .loop .i) (c .before .before .before .before .before .loop-test .taken) (c .before .before .before .range-of .ensures .0) (c .before .before .plain-name .ensures) (a .w .now) (c .before .same .ensures) (c .if1 .taken)) ∙ c .before .before .before .before .before .before .loop .inv
-
-add-i : tie.Need-add-i Inv-loop μ-loop
-add-i c = search needs
-
-loop-less : tie.Need-loop-less Inv-loop μ-loop
-loop-less c = search needs
 
 loop-again : tie.Need-loop-again Inv-loop μ-loop
 loop-again c = let a = c .before .before .before .before .before .before .before .before .before .args in sym (among-miss (a .s .now) (a .ranges .now) (c .before .before .before .before .before .before .loop .i) (c .before .before .before .before .before .loop-test .taken) (c .before .before .before .range-of .ensures .0) (c .before .before .plain-name .ensures) (a .w .now) (c .before .same .ensures) (c .if1 .left)) ∙ c .before .before .before .before .before .before .loop .inv
@@ -52,16 +28,6 @@ pub named-among-spec : {M : Type 1} → statement M
 named-among-spec =
     tie.close
     (tie.spec
-    Inv-loop
-    μ-loop
-    loop-holds
-    mul-range-of
-    shared-slice-copy-out-range-of
-    range-of-requires
-    plain-name-requires
-    same-requires
-    returns
-    add-i
-    loop-less
-    loop-again
+    Inv-loop μ-loop (λ c. refl) (λ c. search needs) (λ c. search needs) (λ c κs. search needs)
+    (λ c κs. search needs) (λ c κs. search needs) returns (λ c. search needs) (λ c. search needs) loop-again
     returns-2)

@@ -9,12 +9,6 @@ use Rattle.macros.proofs.plain_name.Tie as tie
 returns : tie.Need-returns
 returns c = plain-none (c .before .before .args .w .now) (c .if1 .taken)
 
-shared-slice-read-if2 : tie.Need-shared-slice-read-if2
-shared-slice-read-if2 c = search needs
-
-part-of-requires : tie.Need-part-of-requires
-part-of-requires c κs = search needs
-
 returns-2 : tie.Need-returns-2
 returns-2 c = c .part-of .ensures ∙ plain-cut (c .before .before .before .before .before .args .w .now) (c .before .before .before .if1 .left) (c .before .if2 .taken)
 
@@ -23,4 +17,5 @@ returns-3 c = plain-same (c .before .before .before .before .args .w .now) (c .i
 
 pub plain-name-spec : {M : Type 1} → statement M
 plain-name-spec =
-    tie.close (tie.spec returns shared-slice-read-if2 part-of-requires returns-2 returns-3)
+    tie.close (tie.spec
+    returns (λ c. search needs) (λ c κs. search needs) returns-2 returns-3)

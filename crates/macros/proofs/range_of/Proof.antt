@@ -9,26 +9,11 @@ use borrow.Author.Needs.{needs}
 use Rattle.macros.proofs.range_of.Statement.{statement}
 use Rattle.macros.proofs.range_of.Tie as tie
 
-array-read-start : tie.Need-array-read-start
-array-read-start c = search needs
-
-cast-start : tie.Need-cast-start
-cast-start c = search needs
-
-array-read-size : tie.Need-array-read-size
-array-read-size c = search needs
-
-cast-size : tie.Need-cast-size
-cast-size c = search needs
-
 add-part-of : tie.Need-add-part-of
 add-part-of c =
     let a : Fits w32 (getD (c .before .args .t2) 0 0) = search needs in
     let b : Fits w32 (getD (c .before .args .t2) 1 0) = search needs in
     omega arith
-
-part-of-requires : tie.Need-part-of-requires
-part-of-requires c κs = search needs
 
 returns : tie.Need-returns
 returns c =
@@ -40,10 +25,5 @@ pub range-of-spec : {M : Type 1} → statement M
 range-of-spec =
     tie.close
     (tie.spec
-    array-read-start
-    cast-start
-    array-read-size
-    cast-size
-    add-part-of
-    part-of-requires
-    returns)
+    (λ c. search needs) (λ c. search needs) (λ c. search needs) (λ c. search needs) add-part-of
+    (λ c κs. search needs) returns)

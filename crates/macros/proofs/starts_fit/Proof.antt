@@ -8,17 +8,11 @@ use Rattle.macros.proofs.starts_fit.Tie as tie
 returns : tie.Need-returns
 returns c = too-many (c .before .before .args .s .now) (c .before .before .args .ranges .now) (c .before .before .args .records) (c .before .before .args .bytes) (c .if1 .taken)
 
-all-starts-requires : tie.Need-all-starts-requires
-all-starts-requires c κs = search needs
-
 returns-2 : tie.Need-returns-2
 returns-2 c = ill-named (c .before .before .before .before .args .s .now) (c .before .before .before .before .args .ranges .now) (c .before .before .before .before .args .records) (c .before .before .before .before .args .bytes) (c .before .all-starts .ensures) (c .if2 .taken)
 
 returns-3 : tie.Need-returns-3
 returns-3 c = few-records (c .before .before .before .before .before .args .s .now) (c .before .before .before .before .before .args .ranges .now) (c .before .before .before .before .before .args .records) (c .before .before .before .before .before .args .bytes) (c .before .before .all-starts .ensures) (c .before .if2 .left) (c .before .before .before .if1 .left) (c .if3 .taken)
-
-starts-size-requires : tie.Need-starts-size-requires
-starts-size-requires c κs = search needs
 
 returns-4 : tie.Need-returns-4
 returns-4 c = room-is (c .before .before .before .before .before .before .args .s .now) (c .before .before .before .before .before .before .args .ranges .now) (c .before .before .before .before .before .before .args .records) (c .before .before .before .before .before .before .args .bytes) (c .before .before .before .all-starts .ensures) (c .before .before .if2 .left) (c .before .before .before .before .if1 .left) (c .before .if3 .left) (c .starts-size .ensures)
@@ -26,4 +20,5 @@ returns-4 c = room-is (c .before .before .before .before .before .before .args .
 pub starts-fit-spec : {M : Type 1} → statement M
 starts-fit-spec =
     tie.close
-    (tie.spec returns all-starts-requires returns-2 returns-3 starts-size-requires returns-4)
+    (tie.spec
+    returns (λ c κs. search needs) returns-2 returns-3 (λ c κs. search needs) returns-4)

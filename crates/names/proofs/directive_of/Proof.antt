@@ -12,12 +12,10 @@ unfolding bytes directiveOf macroDirectives
 directive-of-spec =
     tie.close
     (tie.spec
-    (λ c. refl) (λ c κs. tt) (λ c. number (search chain))
-    (λ c. refl) (λ c κs. tt) (λ c. number (search chain))
-    (λ c. refl) (λ c κs. tt) (λ c. number (search chain))
-    (λ c. refl) (λ c κs. tt) (λ c. number (search chain))
-    (λ c. refl) (λ c κs. tt) (λ c. number (search chain))
-    (λ c. refl) (λ c κs. tt) (λ c. number (past 4 (search chain) (search chain)))
-    (λ c. refl) (λ c κs. tt) (λ c. number (past 4 (search chain) (search chain)))
-    (λ c. refl) (λ c κs. tt) (λ c. number (past 4 (search chain) (search chain)))
-    (λ c κs. tt) (λ c. number (past 4 (search chain) (search chain))))
+    (λ c. refl) (λ c κs. tt) (λ c. number (search chain)) (λ c. refl) (λ c κs. tt) (λ c. number (search chain))
+    (λ c. refl) (λ c κs. tt) (λ c. number (search chain)) (λ c. refl) (λ c κs. tt) (λ c. number (search chain))
+    (λ c. refl) (λ c κs. tt) (λ c. number (search chain)) (λ c. refl) (λ c κs. tt)
+    (λ c. number (past 4 (search chain) (search chain))) (λ c. refl) (λ c κs. tt)
+    (λ c. number (past 4 (search chain) (search chain))) (λ c. refl) (λ c κs. tt)
+    (λ c. number (past 4 (search chain) (search chain))) (λ c κs. tt)
+    (λ c. number (past 4 (search chain) (search chain))))

@@ -12,6 +12,5 @@ unfolding bytes driveOf
 drive-of-spec =
     tie.close
     (tie.spec
-    (λ c. refl) (λ c κs. tt) (λ c. number (search chain))
-    (λ c. refl) (λ c κs. tt) (λ c. number (search chain))
+    (λ c. refl) (λ c κs. tt) (λ c. number (search chain)) (λ c. refl) (λ c κs. tt) (λ c. number (search chain))
     (λ c. number (search chain)))

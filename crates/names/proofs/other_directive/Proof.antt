@@ -12,12 +12,9 @@ unfolding bytes otherOf otherDirectives
 other-directive-spec =
     tie.close
     (tie.spec
-    (λ c. refl) (λ c κs. tt) (λ c. number (search chain))
-    (λ c. refl) (λ c κs. tt) (λ c. number (search chain))
-    (λ c. refl) (λ c κs. tt) (λ c. number (search chain))
-    (λ c. refl) (λ c κs. tt) (λ c. number (search chain))
-    (λ c. refl) (λ c κs. tt) (λ c. number (search chain))
-    (λ c. refl) (λ c κs. tt) (λ c. number (past 4 (search chain) (search chain)))
-    (λ c. refl) (λ c κs. tt) (λ c. number (past 4 (search chain) (search chain)))
-    (λ c. refl) (λ c κs. tt) (λ c. number (past 4 (search chain) (search chain)))
-    (λ c. number (past 4 (search chain) (search chain))))
+    (λ c. refl) (λ c κs. tt) (λ c. number (search chain)) (λ c. refl) (λ c κs. tt) (λ c. number (search chain))
+    (λ c. refl) (λ c κs. tt) (λ c. number (search chain)) (λ c. refl) (λ c κs. tt) (λ c. number (search chain))
+    (λ c. refl) (λ c κs. tt) (λ c. number (search chain)) (λ c. refl) (λ c κs. tt)
+    (λ c. number (past 4 (search chain) (search chain))) (λ c. refl) (λ c κs. tt)
+    (λ c. number (past 4 (search chain) (search chain))) (λ c. refl) (λ c κs. tt)
+    (λ c. number (past 4 (search chain) (search chain))) (λ c. number (past 4 (search chain) (search chain))))

@@ -12,10 +12,7 @@ unfolding bytes unitOf
 unit-of-spec =
     tie.close
     (tie.spec
-    (λ c. refl) (λ c κs. tt) (λ c. number (search chain))
-    (λ c. refl) (λ c κs. tt) (λ c. number (search chain))
-    (λ c. refl) (λ c κs. tt) (λ c. number (search chain))
-    (λ c. refl) (λ c κs. tt) (λ c. number (search chain))
-    (λ c. refl) (λ c κs. tt) (λ c. number (search chain))
-    (λ c. refl) (λ c κs. tt) (λ c. number (past 4 (search chain) (search chain)))
-    (λ c. number (past 4 (search chain) (search chain))))
+    (λ c. refl) (λ c κs. tt) (λ c. number (search chain)) (λ c. refl) (λ c κs. tt) (λ c. number (search chain))
+    (λ c. refl) (λ c κs. tt) (λ c. number (search chain)) (λ c. refl) (λ c κs. tt) (λ c. number (search chain))
+    (λ c. refl) (λ c κs. tt) (λ c. number (search chain)) (λ c. refl) (λ c κs. tt)
+    (λ c. number (past 4 (search chain) (search chain))) (λ c. number (past 4 (search chain) (search chain))))

@@ -12,8 +12,6 @@ unfolding bytes versionOf
 version-of-spec =
     tie.close
     (tie.spec
-    (λ c. refl) (λ c κs. tt) (λ c. number (search chain))
-    (λ c. refl) (λ c κs. tt) (λ c. number (search chain))
-    (λ c. refl) (λ c κs. tt) (λ c. number (search chain))
-    (λ c. refl) (λ c κs. tt) (λ c. number (search chain))
+    (λ c. refl) (λ c κs. tt) (λ c. number (search chain)) (λ c. refl) (λ c κs. tt) (λ c. number (search chain))
+    (λ c. refl) (λ c κs. tt) (λ c. number (search chain)) (λ c. refl) (λ c κs. tt) (λ c. number (search chain))
     (λ c. number (search chain)))

@@ -19,38 +19,8 @@ abbrev μ-loop : tie.MeasureT-loop
 loop-holds : tie.Need-loop-holds Inv-loop μ-loop
 loop-holds c = opening-none [] (c .pre .0) (c .pre .1)
 
-sub-records : tie.Need-sub-records Inv-loop μ-loop
-sub-records c = omega arith
-
-mul-records : tie.Need-mul-records Inv-loop μ-loop
-mul-records c = omega arith
-
-slice-copy-out-records : tie.Need-slice-copy-out-records Inv-loop μ-loop
-slice-copy-out-records c = omega arith
-
-mul-t11 : tie.Need-mul-t11 Inv-loop μ-loop
-mul-t11 c = omega arith
-
-slice-set-from-records : tie.Need-slice-set-from-records Inv-loop μ-loop
-slice-set-from-records c = omega arith
-
-sub-i : tie.Need-sub-i Inv-loop μ-loop
-sub-i c = omega arith
-
-loop-less : tie.Need-loop-less Inv-loop μ-loop
-loop-less c = omega arith
-
 loop-again : tie.Need-loop-again Inv-loop μ-loop
 loop-again c = opening-next [] (c .before .before .loop .inv) (c .before .before .before .pre .1) (c .before .loop-test .taken)
-
-numbers-of-requires : tie.Need-numbers-of-requires Inv-loop μ-loop
-numbers-of-requires c κs = tt
-
-mul-t14 : tie.Need-mul-t14 Inv-loop μ-loop
-mul-t14 c = omega arith
-
-slice-set-from-records-2 : tie.Need-slice-set-from-records-2 Inv-loop μ-loop
-slice-set-from-records-2 c = omega arith
 
 same-length : tie.Need-same-length Inv-loop μ-loop
 same-length c = length-set (c .before .before .loop .records) (c .before .before .before .args .at) (c .numbers-of .result) ∙ c .before .before .loop .inv .long
@@ -62,19 +32,6 @@ pub insert-spec : {M : Type 1} → statement M
 insert-spec =
     tie.close
     (tie.spec
-    Inv-loop
-    μ-loop
-    loop-holds
-    sub-records
-    mul-records
-    slice-copy-out-records
-    mul-t11
-    slice-set-from-records
-    sub-i
-    loop-less
-    loop-again
-    numbers-of-requires
-    mul-t14
-    slice-set-from-records-2
-    same-length
-    returns)
+    Inv-loop μ-loop loop-holds (λ c. omega arith) (λ c. omega arith) (λ c. omega arith) (λ c. omega arith)
+    (λ c. omega arith) (λ c. omega arith) (λ c. omega arith) loop-again (λ c κs. tt) (λ c. omega arith)
+    (λ c. omega arith) same-length returns)

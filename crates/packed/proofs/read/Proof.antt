@@ -12,19 +12,11 @@ use Rattle.packed.proofs.read.Tie as tie
 returns : tie.Need-returns
 returns c = record-blank (sym (List·getD-eq-default (c .before .args .records .now) blankRecord (c .if1 .taken)))
 
-mul-record-of : tie.Need-mul-record-of
-mul-record-of c = search needs
-
-shared-slice-copy-out-record-of : tie.Need-shared-slice-copy-out-record-of
-shared-slice-copy-out-record-of c = search needs
-
-record-of-requires : tie.Need-record-of-requires
-record-of-requires c κs = search needs
-
 returns-2 : tie.Need-returns-2
 returns-2 c = record-as (any-default (c .before .before .before .args .records .now) (c .before .before .before .args .i) [] blankRecord (c .before .before .if1 .left)) (c .record-of .ensures)
 
 pub read-spec : {M : Type 1} → statement M
 read-spec =
     tie.close
-    (tie.spec returns mul-record-of shared-slice-copy-out-record-of record-of-requires returns-2)
+    (tie.spec
+    returns (λ c. search needs) (λ c. search needs) (λ c κs. search needs) returns-2)

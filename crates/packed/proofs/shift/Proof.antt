@@ -18,26 +18,8 @@ abbrev μ-loop : tie.MeasureT-loop
 loop-holds : tie.Need-loop-holds Inv-loop μ-loop
 loop-holds c = (refl, refl)
 
-mul-moved : tie.Need-mul-moved Inv-loop μ-loop
-mul-moved c = omega arith
-
-slice-copy-out-moved : tie.Need-slice-copy-out-moved Inv-loop μ-loop
-slice-copy-out-moved c = omega arith
-
 moved-requires : tie.Need-moved-requires Inv-loop μ-loop
 moved-requires c κs = c .before .before .before .pre .1
-
-mul-t12 : tie.Need-mul-t12 Inv-loop μ-loop
-mul-t12 c = omega arith
-
-slice-set-from-records : tie.Need-slice-set-from-records Inv-loop μ-loop
-slice-set-from-records c = omega arith
-
-add-i : tie.Need-add-i Inv-loop μ-loop
-add-i c = omega arith
-
-loop-less : tie.Need-loop-less Inv-loop μ-loop
-loop-less c = omega arith
 
 loop-again : tie.Need-loop-again Inv-loop μ-loop
 loop-again c = (from-next _ _ (c .before .before .before .loop .i) (c .before .before .before .before .args .to) (c .before .before .before .loop .records) _ (c .before .before .loop-test .taken) (omega arith) (c .moved .ensures) ∙ c .before .before .before .loop .inv .0, length-set (c .before .before .before .loop .records) (c .before .before .before .loop .i) (c .moved .result) ∙ c .before .before .before .loop .inv .1)
@@ -52,16 +34,5 @@ pub shift-spec : {M : Type 1} → statement M
 shift-spec =
     tie.close
     (tie.spec
-    Inv-loop
-    μ-loop
-    loop-holds
-    mul-moved
-    slice-copy-out-moved
-    moved-requires
-    mul-t12
-    slice-set-from-records
-    add-i
-    loop-less
-    loop-again
-    same-length
-    returns)
+    Inv-loop μ-loop loop-holds (λ c. omega arith) (λ c. omega arith) moved-requires (λ c. omega arith)
+    (λ c. omega arith) (λ c. omega arith) (λ c. omega arith) loop-again same-length returns)

@@ -30,20 +30,11 @@ loop-holds c = (refl, refl, λ ms a j h l. absurd (omega arith))
 uses-of-requires : tie.Need-uses-of-requires Inv-loop μ-loop
 uses-of-requires c κs = (c .before .before .before .before .pre .0, c .before .loop-test .taken, omega (arith, c .before .before .before .before .pre .1, c .before .before .loop .inv .0))
 
-row-of-requires : tie.Need-row-of-requires Inv-loop μ-loop
-row-of-requires c κs = search needs
-
 mul-t12 : tie.Need-mul-t12 Inv-loop μ-loop
 mul-t12 c = omega (arith, c .before .before .before .before .before .before .before .pre .0 .few-macros)
 
 slice-set-from-rows : tie.Need-slice-set-from-rows Inv-loop μ-loop
 slice-set-from-rows c = omega (arith, c .before .before .before .before .before .before .before .pre .0 .few-macros, c .before .before .before .before .before .before .before .pre .2, c .before .before .before .before .before .loop .inv .1)
-
-add-i : tie.Need-add-i Inv-loop μ-loop
-add-i c = omega arith
-
-loop-less : tie.Need-loop-less Inv-loop μ-loop
-loop-less c = omega arith
 
 loop-again : tie.Need-loop-again Inv-loop μ-loop
 loop-again c =
@@ -66,16 +57,5 @@ pub fill-rows-spec : {M : Type 1} → statement M
 fill-rows-spec =
     tie.close
     (tie.spec
-    Inv-loop
-    μ-loop
-    loop-holds
-    uses-of-requires
-    row-of-requires
-    mul-t12
-    slice-set-from-rows
-    add-i
-    loop-less
-    loop-again
-    same-length
-    same-length-2
-    returns)
+    Inv-loop μ-loop loop-holds uses-of-requires (λ c κs. search needs) mul-t12 slice-set-from-rows
+    (λ c. omega arith) (λ c. omega arith) loop-again same-length same-length-2 returns)

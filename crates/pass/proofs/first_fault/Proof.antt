@@ -41,14 +41,8 @@ macro-fault-requires c κs =
       c .before .before .before .before .before .before .before .pre .2,
     )
 
-enum-told : tie.Need-enum-told Inv-loop μ-loop
-enum-told c = search needs
-
 add-i : tie.Need-add-i Inv-loop μ-loop
 add-i c = omega (arith, c .before .before .before .before .before .before .before .before .before .before .before .before .before .before .pre .0 .few-macros)
-
-loop-less : tie.Need-loop-less Inv-loop μ-loop
-loop-less c = omega arith
 
 loop-again : tie.Need-loop-again Inv-loop μ-loop
 loop-again c = (
@@ -57,9 +51,6 @@ loop-again c = (
   c .before .before .before .before .before .before .macro-fault .kept .1 .1 .1 .1 .1 .1 .0 ∙ c .before .before .before .before .before .before .before .before .before .before .before .loop .inv .2,
   λ ms h s. c .before .before .before .before .before .before .before .before .before .before .before .loop .inv .3 ms h s ∙ pass-next ms (c .before .before .before .before .before .before .before .before .before .before .before .before .before .before .args .rows .now) (c .before .before .before .before .before .before .before .before .before .before .before .loop .i) (c .before .before .before .before .before .before .before .before .before .before .before .before .before .before .args .macros) (c .before .before .before .before .before .before .before .before .before .before .loop-test .taken) (s (c .before .before .before .before .before .before .before .before .before .before .before .loop .i) (c .before .before .before .before .before .before .before .before .before .before .loop-test .taken)) (c .before .before .before .before .before .before .macro-fault .ensures ms h) (c .enum-told .given .1),
 )
-
-enum-known-r : tie.Need-enum-known-r Inv-loop μ-loop
-enum-known-r c = search needs
 
 same-length : tie.Need-same-length Inv-loop μ-loop
 same-length c = c .before .before .before .before .before .before .before .macro-fault .kept .1 .1 .1 .1 .0 ∙ c .before .before .before .before .before .before .before .before .before .before .before .before .loop .inv .0
@@ -89,20 +80,6 @@ pub first-fault-spec : {M : Type 1} → statement M
 first-fault-spec =
     tie.close
     (tie.spec
-    Inv-loop
-    μ-loop
-    loop-holds
-    macro-fault-requires
-    enum-told
-    add-i
-    loop-less
-    loop-again
-    enum-known-r
-    same-length
-    same-length-2
-    same-length-3
-    returns
-    same-length-4
-    same-length-5
-    same-length-6
+    Inv-loop μ-loop loop-holds macro-fault-requires (λ c. search needs) add-i (λ c. omega arith) loop-again
+    (λ c. search needs) same-length same-length-2 same-length-3 returns same-length-4 same-length-5 same-length-6
     returns-2)

@@ -6,17 +6,8 @@ use borrow.Author.Needs.{needs}
 use Rattle.pass.proofs.pass.Statement.{statement}
 use Rattle.pass.proofs.pass.Tie as tie
 
-check-store-requires : tie.Need-check-store-requires
-check-store-requires c κs = search needs
-
-enum-known-c : tie.Need-enum-known-c
-enum-known-c c = search needs
-
 pass-stored-requires : tie.Need-pass-stored-requires
 pass-stored-requires c κs = left-kept (c .before .before .before .check-store .ensures) (λ i. omega (arith, c .before .before .before .before .shared-slice-known .given i)) _ (c .before .c .given .1)
-
-enum-told : tie.Need-enum-told
-enum-told c = search needs
 
 returns : tie.Need-returns
 returns c = passes-left (c .before .before .before .before .check-store .ensures) _ (c .before .before .c .given .1) (c .pass-stored .ensures)
@@ -27,4 +18,5 @@ returns-2 c = passes-foreign (c .before .before .check-store .ensures) (c .enum-
 pub pass-spec : {M : Type 1} → statement M
 pass-spec =
     tie.close
-    (tie.spec check-store-requires enum-known-c pass-stored-requires enum-told returns returns-2)
+    (tie.spec
+    (λ c κs. search needs) (λ c. search needs) pass-stored-requires (λ c. search needs) returns returns-2)

@@ -36,14 +36,8 @@ token-fault-requires c κs =
       c .before .before .loop-test .taken,
     )
 
-enum-told : tie.Need-enum-told Inv-loop μ-loop
-enum-told c = search needs
-
 add-k : tie.Need-add-k Inv-loop μ-loop
 add-k c = omega (arith, c .before .before .before .before .before .before .before .before .before .before .before .before .pre .1 .small)
-
-loop-less : tie.Need-loop-less Inv-loop μ-loop
-loop-less c = omega arith
 
 loop-again : tie.Need-loop-again Inv-loop μ-loop
 loop-again c = (
@@ -52,9 +46,6 @@ loop-again c = (
   c .before .before .before .before .before .token-fault .kept .1 .1 .1 .1 .1 .1 .1 .0 ∙ c .before .before .before .before .before .before .before .before .before .loop .inv .2,
   λ ms h. c .before .before .before .before .before .before .before .before .before .loop .inv .3 ms h ∙ text-good (c .before .before .before .before .before .before .before .before .before .before .before .before .args .b .now) (c .before .before .before .before .before .before .before .before .before .before .before .before .args .list .now) (c .before .before .before .before .before .before .before .before .before .before .before .before .args .n) (c .before .before .before .before .before .before .before .before .before .loop .k) ms (c .before .before .before .before .before .before .before .before .loop-test .taken) (λ p ps e. c .before .before .before .before .before .token-fault .ensures ms p ps h e) (c .enum-told .given .1),
 )
-
-enum-known-r : tie.Need-enum-known-r Inv-loop μ-loop
-enum-known-r c = search needs
 
 same-length : tie.Need-same-length Inv-loop μ-loop
 same-length c = c .before .before .before .before .before .before .token-fault .kept .1 .1 .1 .1 .1 .1 .0 ∙ c .before .before .before .before .before .before .before .before .before .before .loop .inv .1
@@ -80,18 +71,5 @@ pub text-fault-spec : {M : Type 1} → statement M
 text-fault-spec =
     tie.close
     (tie.spec
-    Inv-loop
-    μ-loop
-    loop-holds
-    token-fault-requires
-    enum-told
-    add-k
-    loop-less
-    loop-again
-    enum-known-r
-    same-length
-    same-length-2
-    returns
-    same-length-3
-    same-length-4
-    returns-2)
+    Inv-loop μ-loop loop-holds token-fault-requires (λ c. search needs) add-k (λ c. omega arith) loop-again
+    (λ c. search needs) same-length same-length-2 returns same-length-3 same-length-4 returns-2)

@@ -14,32 +14,14 @@ Inv-loop b q list₀ w i₀ k₀ marks₀ list i k marks = Unfolding b q list₀
 abbrev μ-loop : tie.MeasureT-loop
 μ-loop b q list₀ w i₀ k₀ marks₀ list i k marks = length w - i
 
-add-part-of : tie.Need-add-part-of Inv-loop μ-loop
-add-part-of c = omega arith
-
-part-of-requires : tie.Need-part-of-requires Inv-loop μ-loop
-part-of-requires c κs = search needs
-
 loop-holds : tie.Need-loop-holds Inv-loop μ-loop
 loop-holds c = unfold-none (c .part-of .ensures)
-
-in-text-requires : tie.Need-in-text-requires Inv-loop μ-loop
-in-text-requires c κs = search needs
-
-token-at-requires : tie.Need-token-at-requires Inv-loop μ-loop
-token-at-requires c κs = search needs
 
 add-k : tie.Need-add-k Inv-loop μ-loop
 add-k c = omega (arith, unfold-room (c .before .before .before .loop .inv) (c .before .before .loop-test .taken) (c .before .in-text .ensures) (c .token-at .ensures) (c .before .before .before .before .before .before .before .pre .0))
 
-empty-requires : tie.Need-empty-requires Inv-loop μ-loop
-empty-requires c κs = search needs
-
 stored-ref-requires : tie.Need-stored-ref-requires Inv-loop μ-loop
 stored-ref-requires c κs = unfold-small (c .before .before .before .before .loop .inv) (c .before .before .before .loop-test .taken) (c .before .before .in-text .ensures) (c .before .token-at .ensures) (c .before .before .before .before .before .before .before .before .pre .1) (c .before .before .before .before .before .before .before .before .pre .2)
-
-numbers-of-requires : tie.Need-numbers-of-requires Inv-loop μ-loop
-numbers-of-requires c κs = search needs
 
 sub-t16 : tie.Need-sub-t16 Inv-loop μ-loop
 sub-t16 c = omega (arith, unfold-room (c .before .before .before .before .before .before .loop .inv) (c .before .before .before .before .before .loop-test .taken) (c .before .before .before .before .in-text .ensures) (c .before .before .before .token-at .ensures) (c .before .before .before .before .before .before .before .before .before .before .pre .0))
@@ -49,9 +31,6 @@ mul-t17 c = omega (arith, unfold-room (c .before .before .before .before .before
 
 slice-set-from-list : tie.Need-slice-set-from-list Inv-loop μ-loop
 slice-set-from-list c = omega (arith, unfold-room (c .before .before .before .before .before .before .loop .inv) (c .before .before .before .before .before .loop-test .taken) (c .before .before .before .before .in-text .ensures) (c .before .before .before .token-at .ensures) (c .before .before .before .before .before .before .before .before .before .before .pre .0))
-
-marks-after-requires : tie.Need-marks-after-requires Inv-loop μ-loop
-marks-after-requires c κs = search needs
 
 loop-less : tie.Need-loop-less Inv-loop μ-loop
 loop-less c = unfold-less (c .before .before .before .before .before .before .before .loop .inv) (c .before .before .before .before .before .before .loop-test .taken) (c .before .before .before .before .before .in-text .ensures) (c .before .before .before .before .token-at .ensures)
@@ -69,22 +48,6 @@ pub unfold-text-spec : {M : Type 1} → statement M
 unfold-text-spec =
     tie.close
     (tie.spec
-    Inv-loop
-    μ-loop
-    add-part-of
-    part-of-requires
-    loop-holds
-    in-text-requires
-    token-at-requires
-    add-k
-    empty-requires
-    stored-ref-requires
-    numbers-of-requires
-    sub-t16
-    mul-t17
-    slice-set-from-list
-    marks-after-requires
-    loop-less
-    loop-again
-    same-length
-    returns)
+    Inv-loop μ-loop (λ c. omega arith) (λ c κs. search needs) loop-holds (λ c κs. search needs)
+    (λ c κs. search needs) add-k (λ c κs. search needs) stored-ref-requires (λ c κs. search needs) sub-t16 mul-t17
+    slice-set-from-list (λ c κs. search needs) loop-less loop-again same-length returns)

@@ -8,32 +8,8 @@ use borrow.Author.Needs.{needs}
 use Rattle.pass.proofs.usage_fault.Statement.{statement}
 use Rattle.pass.proofs.usage_fault.Tie as tie
 
-find-requires : tie.Need-find-requires
-find-requires c κs = search needs
-
-enum-known-f : tie.Need-enum-known-f
-enum-known-f c = search needs
-
-read-requires : tie.Need-read-requires
-read-requires c κs = search needs
-
 accept-requires : tie.Need-accept-requires
 accept-requires c κs = (c .before .before .before .before .before .before .before .before .before .before .pre .0 .bytes-small, record-small (c .before .before .read .ensures), c .before .before .before .before .before .before .before .before .before .before .pre .1)
-
-enum-told : tie.Need-enum-told
-enum-told c = search needs
-
-enum-known-r : tie.Need-enum-known-r
-enum-known-r c = search needs
-
-enum-told-2 : tie.Need-enum-told-2
-enum-told-2 c = search needs
-
-same-length : tie.Need-same-length
-same-length c = search needs
-
-same-length-2 : tie.Need-same-length-2
-same-length-2 c = search needs
 
 returns : tie.Need-returns
 returns c ms h =
@@ -41,12 +17,6 @@ returns c ms h =
     let f = itemsFrom (a .b .now) (a .b .now) (a .list .now) (a .n) false in
     usage-good (a .w .now) (f (a .at)) h (c .before .before .before .before .before .before .before .before .before .before .before .before .find .ensures ms h) _ (c .before .before .before .before .before .before .before .before .before .before .f .given .1) (c .before .before .before .before .before .before .before .before .before .before .before .before .before .before .before .before .pre .0 .bytes-small) (c .before .before .before .before .before .before .before .before .read .ensures) f (lastOf (a .b .now) (a .n) false)
     (c .before .before .before .before .before .accept .last .1 .1 .1 .1 .1 .1 .1 .0) (c .before .before .before .before .before .accept .result) (c .before .before .before .before .before .accept .ensures) _ _ (c .enum-told .given .1)
-
-same-length-3 : tie.Need-same-length-3
-same-length-3 c = search needs
-
-same-length-4 : tie.Need-same-length-4
-same-length-4 c = search needs
 
 returns-2 : tie.Need-returns-2
 returns-2 c ms h =
@@ -65,17 +35,6 @@ pub usage-fault-spec : {M : Type 1} → statement M
 usage-fault-spec =
     tie.close
     (tie.spec
-    find-requires
-    enum-known-f
-    read-requires
-    accept-requires
-    enum-told
-    enum-known-r
-    enum-told-2
-    same-length
-    same-length-2
-    returns
-    same-length-3
-    same-length-4
-    returns-2
-    returns-3)
+    (λ c κs. search needs) (λ c. search needs) (λ c κs. search needs) accept-requires (λ c. search needs)
+    (λ c. search needs) (λ c. search needs) (λ c. search needs) (λ c. search needs) returns (λ c. search needs)
+    (λ c. search needs) returns-2 returns-3)

@@ -21,26 +21,11 @@ Inv-loop b records macros list n uses₀ k₀ uses k = (k ≤ n) × ((ms : List 
 abbrev μ-loop : tie.MeasureT-loop
 μ-loop b records macros list n uses₀ k₀ uses k = n - k
 
-empty-requires : tie.Need-empty-requires Inv-loop μ-loop
-empty-requires c κs = search needs
-
 loop-holds : tie.Need-loop-holds Inv-loop μ-loop
 loop-holds c = (omega arith, λ ms j h. uses-none ms (c .before .before .args .b .now) (c .before .before .args .list .now) j (c .empty .ensures))
 
-mul-with-use : tie.Need-mul-with-use Inv-loop μ-loop
-mul-with-use c = omega arith
-
-shared-slice-copy-out-with-use : tie.Need-shared-slice-copy-out-with-use Inv-loop μ-loop
-shared-slice-copy-out-with-use c = omega arith
-
 with-use-requires : tie.Need-with-use-requires Inv-loop μ-loop
 with-use-requires c κs = c .before .before .before .before .before .pre .0
-
-add-k : tie.Need-add-k Inv-loop μ-loop
-add-k c = omega arith
-
-loop-less : tie.Need-loop-less Inv-loop μ-loop
-loop-less c = omega arith
 
 loop-again : tie.Need-loop-again Inv-loop μ-loop
 loop-again c =
@@ -59,14 +44,5 @@ pub uses-in-spec : {M : Type 1} → statement M
 uses-in-spec =
     tie.close
     (tie.spec
-    Inv-loop
-    μ-loop
-    empty-requires
-    loop-holds
-    mul-with-use
-    shared-slice-copy-out-with-use
-    with-use-requires
-    add-k
-    loop-less
-    loop-again
-    returns)
+    Inv-loop μ-loop (λ c κs. search needs) loop-holds (λ c. omega arith) (λ c. omega arith) with-use-requires
+    (λ c. omega arith) (λ c. omega arith) loop-again returns)

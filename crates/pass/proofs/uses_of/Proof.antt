@@ -12,32 +12,8 @@ use borrow.Author.Needs.{needs}
 use Rattle.pass.proofs.uses_of.Statement.{statement}
 use Rattle.pass.proofs.uses_of.Tie as tie
 
-read-requires : tie.Need-read-requires
-read-requires c κs = search needs
-
 unfold-text-requires : tie.Need-unfold-text-requires
 unfold-text-requires c κs = (omega (arith, c .before .before .before .pre .0 .bytes-small, c .before .before .before .pre .2), c .before .before .before .pre .0 .bytes-small, record-small (c .before .read .ensures))
-
-sub-a : tie.Need-sub-a
-sub-a c = search needs
-
-mul-uses-in : tie.Need-mul-uses-in
-mul-uses-in c = search needs
-
-sub-uses-in : tie.Need-sub-uses-in
-sub-uses-in c = search needs
-
-part-uses-in-start : tie.Need-part-uses-in-start
-part-uses-in-start c = search needs
-
-part-uses-in-end : tie.Need-part-uses-in-end
-part-uses-in-end c = search needs
-
-uses-in-requires : tie.Need-uses-in-requires
-uses-in-requires c κs = search needs
-
-same-length : tie.Need-same-length
-same-length c = search needs
 
 returns : tie.Need-returns
 returns c ms j h =
@@ -49,13 +25,5 @@ pub uses-of-spec : {M : Type 1} → statement M
 uses-of-spec =
     tie.close
     (tie.spec
-    read-requires
-    unfold-text-requires
-    sub-a
-    mul-uses-in
-    sub-uses-in
-    part-uses-in-start
-    part-uses-in-end
-    uses-in-requires
-    same-length
-    returns)
+    (λ c κs. search needs) unfold-text-requires (λ c. search needs) (λ c. search needs) (λ c. search needs)
+    (λ c. search needs) (λ c. search needs) (λ c κs. search needs) (λ c. search needs) returns)

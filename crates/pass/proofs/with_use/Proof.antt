@@ -8,21 +8,6 @@ use borrow.Author.Needs.{needs}
 use Rattle.pass.proofs.with_use.Statement.{statement}
 use Rattle.pass.proofs.with_use.Tie as tie
 
-pend-of-requires : tie.Need-pend-of-requires
-pend-of-requires c κs = search needs
-
-is-usage-requires : tie.Need-is-usage-requires
-is-usage-requires c κs = search needs
-
-name-of-requires : tie.Need-name-of-requires
-name-of-requires c κs = search needs
-
-find-requires : tie.Need-find-requires
-find-requires c κs = search needs
-
-enum-known-f : tie.Need-enum-known-f
-enum-known-f c = search needs
-
 insert-requires : tie.Need-insert-requires
 insert-requires c κs =
     let h = c .before .before .before .before .before .before .before .before .before .pre .stored .holds in
@@ -30,9 +15,6 @@ insert-requires c κs =
 
 returns : tie.Need-returns
 returns c ms j h = use-at ms (c .before .before .before .before .before .before .before .before .before .before .args .b .now) (c .before .before .before .before .before .before .before .before .before .before .args .v) (c .before .before .before .before .before .before .before .before .pend-of .ensures) (c .before .before .before .before .before .before .before .is-usage .ensures) (members (c .before .before .before .before .before .before .before .before .before .before .args .uses)) j (c .before .before .before .before .before .before .if1 .taken) (c .before .before .before .before .before .name-of .ensures) (c .before .before .before .before .find .ensures ms h) _ (c .before .before .f .given .1) (c .insert .ensures)
-
-enum-told : tie.Need-enum-told
-enum-told c = search needs
 
 returns-2 : tie.Need-returns-2
 returns-2 c ms j h = use-missing ms (c .before .before .before .before .before .before .before .before .args .b .now) (c .before .before .before .before .before .before .before .before .args .v) (c .before .before .before .before .before .before .pend-of .ensures) (c .before .before .before .before .before .is-usage .ensures) (members (c .before .before .before .before .before .before .before .before .args .uses)) j (c .before .before .before .before .if1 .taken) (c .before .before .before .name-of .ensures) (c .before .before .find .ensures ms h) _ (c .enum-told .given .1)
@@ -44,13 +26,5 @@ pub with-use-spec : {M : Type 1} → statement M
 with-use-spec =
     tie.close
     (tie.spec
-    pend-of-requires
-    is-usage-requires
-    name-of-requires
-    find-requires
-    enum-known-f
-    insert-requires
-    returns
-    enum-told
-    returns-2
-    returns-3)
+    (λ c κs. search needs) (λ c κs. search needs) (λ c κs. search needs) (λ c κs. search needs) (λ c. search needs)
+    insert-requires returns (λ c. search needs) returns-2 returns-3)

@@ -5,12 +5,10 @@ use borrow.Author.Needs.{needs}
 use Rattle.pending.proofs.bytes_at.Statement.{statement}
 use Rattle.pending.proofs.bytes_at.Tie as tie
 
-part-in-requires : tie.Need-part-in-requires
-part-in-requires c κs = search needs
-
 returns : tie.Need-returns
 unfolding rawOf
 returns c = rw (c .before .before .before .pre) (c .part-in .ensures)
 
 pub bytes-at-spec : {M : Type 1} → statement M
-bytes-at-spec = tie.close (tie.spec part-in-requires returns)
+bytes-at-spec = tie.close (tie.spec
+    (λ c κs. search needs) returns)

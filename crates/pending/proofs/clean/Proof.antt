@@ -5,14 +5,8 @@ use borrow.Author.Needs.{needs}
 use Rattle.pending.proofs.clean.Statement.{statement}
 use Rattle.pending.proofs.clean.Tie as tie
 
-is-comment-requires : tie.Need-is-comment-requires
-is-comment-requires c κs = search needs
-
 returns : tie.Need-returns
 returns c = rw (← c .before .is-comment .ensures, c .if1 .taken)
-
-joined-source-requires : tie.Need-joined-source-requires
-joined-source-requires c κs = search needs
 
 returns-2 : tie.Need-returns-2
 returns-2 c = rw (← c .before .before .before .before .is-comment .ensures, c .before .before .before .if1 .left, eq-eqb _ _ (c .before .if2 .taken), c .joined-source .ensures)
@@ -22,4 +16,5 @@ returns-3 c = rw (← c .before .before .before .is-comment .ensures, c .before 
 
 pub clean-spec : {M : Type 1} → statement M
 clean-spec =
-    tie.close (tie.spec is-comment-requires returns joined-source-requires returns-2 returns-3)
+    tie.close (tie.spec
+    (λ c κs. search needs) returns (λ c κs. search needs) returns-2 returns-3)

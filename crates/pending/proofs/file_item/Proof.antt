@@ -9,18 +9,10 @@ use Rattle.pending.proofs.file_item.Tie as tie
 returns : tie.Need-returns
 returns c = λ b l n. file-out _ b l n _ (c .if1 .taken)
 
-in-file-requires : tie.Need-in-file-requires
-in-file-requires c κs = search needs
-
-token-at-requires : tie.Need-token-at-requires
-token-at-requires c κs = search needs
-
-empty-requires : tie.Need-empty-requires
-empty-requires c κs = search needs
-
 returns-2 : tie.Need-returns-2
 returns-2 c = λ b l n. file-seen _ b l n _ _ _ _ (omega arith) (c .before .before .in-file .ensures) (c .before .token-at .ensures) (c .empty .ensures)
 
 pub file-item-spec : {M : Type 1} → statement M
 file-item-spec =
-    tie.close (tie.spec returns in-file-requires token-at-requires empty-requires returns-2)
+    tie.close (tie.spec
+    returns (λ c κs. search needs) (λ c κs. search needs) (λ c κs. search needs) returns-2)

@@ -17,11 +17,9 @@ returns c = rw (eq-eqb _ _ (c .if1 .taken))
 bytes-at-requires : tie.Need-bytes-at-requires
 bytes-at-requires c κs = ne-eqb _ _ (c .if1 .left)
 
-peek-requires : tie.Need-peek-requires
-peek-requires c κs = search needs
-
 returns-2 : tie.Need-returns-2
 returns-2 c = c .peek .ensures ∙ ap (λ (w : List ℕ). getD w 0 0) (c .before .bytes-at .ensures)
 
 pub first-byte-spec : {M : Type 1} → statement M
-first-byte-spec = tie.close (tie.spec returns bytes-at-requires peek-requires returns-2)
+first-byte-spec = tie.close (tie.spec
+    returns bytes-at-requires (λ c κs. search needs) returns-2)

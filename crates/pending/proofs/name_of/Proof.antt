@@ -5,12 +5,10 @@ use borrow.Author.Needs.{needs}
 use Rattle.pending.proofs.name_of.Statement.{statement}
 use Rattle.pending.proofs.name_of.Tie as tie
 
-part-in-requires : tie.Need-part-in-requires
-part-in-requires c κs = search needs
-
 returns : tie.Need-returns
 unfolding pendingBy
 returns c = c .part-in .ensures
 
 pub name-of-spec : {M : Type 1} → statement M
-name-of-spec = tie.close (tie.spec part-in-requires returns)
+name-of-spec = tie.close (tie.spec
+    (λ c κs. search needs) returns)

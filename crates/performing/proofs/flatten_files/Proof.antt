@@ -17,17 +17,11 @@ slice-aggregate-flatten-found c = filled 2097152
 slice-aggregate-flatten-found-2 : tie.Need-slice-aggregate-flatten-found-2
 slice-aggregate-flatten-found-2 c = filled 131072
 
-flatten-found-requires : tie.Need-flatten-found-requires
-flatten-found-requires c κs = tt
-
 slice-aggregate-finish : tie.Need-slice-aggregate-finish
 slice-aggregate-finish c = as-long 2097152 (c .before .before .before .before .before .before .before .before .before .before .before .before .before .before .before .flatten-found .last .1 .1 .1 .1 .1 .1 .1 .0) (c .before .before .before .before .before .before .before .before .before .before .before .before .before .before .before .flatten-found .kept .1 .1 .1 .1 .1 .1 .1 .0)
 
 slice-aggregate-finish-2 : tie.Need-slice-aggregate-finish-2
 slice-aggregate-finish-2 c = as-long 131072 (c .before .before .before .before .before .before .before .before .before .before .before .before .before .before .before .before .flatten-found .last .1 .1 .1 .1 .1 .1 .1 .1 .0) (c .before .before .before .before .before .before .before .before .before .before .before .before .before .before .before .before .flatten-found .kept .1 .1 .1 .1 .1 .1 .1 .1 .0)
-
-finish-requires : tie.Need-finish-requires
-finish-requires c κs = tt
 
 same-length : tie.Need-same-length
 same-length c = (c .before .before .finish .kept .1 .1 .1 .1 .0) ∙ (c .before .before .before .before .before .before .before .before .before .before .before .before .before .before .before .before .before .before .before .before .flatten-found .kept .1 .1 .0)
@@ -44,22 +38,10 @@ same-length-4 c = c .before .before .before .before .before .before .before .bef
 same-length-5 : tie.Need-same-length-5
 same-length-5 c = c .before .before .before .before .before .before .before .before .before .before .before .before .before .before .before .before .before .before .before .before .flatten-found .kept .1 .1 .1 .1 .1 .1 .1 .1 .1 .0
 
-returns : tie.Need-returns
-returns c = tt
-
 pub flatten-files-spec : {M : Type 1} → statement M
 flatten-files-spec =
     tie.close
     (tie.spec
-    slice-aggregate-flatten-found
-    slice-aggregate-flatten-found-2
-    flatten-found-requires
-    slice-aggregate-finish
-    slice-aggregate-finish-2
-    finish-requires
-    same-length
-    same-length-2
-    same-length-3
-    same-length-4
-    same-length-5
-    returns)
+    slice-aggregate-flatten-found slice-aggregate-flatten-found-2 (λ c κs. tt) slice-aggregate-finish
+    slice-aggregate-finish-2 (λ c κs. tt) same-length same-length-2 same-length-3 same-length-4 same-length-5
+    (λ c. tt))

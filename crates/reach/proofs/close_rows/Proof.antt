@@ -18,12 +18,6 @@ loop-holds c = known-none (c .args .rows .now) (c .args .n)
 join-rows-requires : tie.Need-join-rows-requires Inv-loop μ-loop
 join-rows-requires c κs = (omega arith, omega arith, omega arith)
 
-add-k : tie.Need-add-k Inv-loop μ-loop
-add-k c = omega arith
-
-loop-less : tie.Need-loop-less Inv-loop μ-loop
-loop-less c = omega arith
-
 loop-again : tie.Need-loop-again Inv-loop μ-loop
 loop-again c = known-more (c .before .before .before .before .loop .inv) (omega arith) (c .before .join-rows .ensures)
 
@@ -37,12 +31,5 @@ pub close-rows-spec : {M : Type 1} → statement M
 close-rows-spec =
     tie.close
     (tie.spec
-    Inv-loop
-    μ-loop
-    loop-holds
-    join-rows-requires
-    add-k
-    loop-less
-    loop-again
-    same-length
+    Inv-loop μ-loop loop-holds join-rows-requires (λ c. omega arith) (λ c. omega arith) loop-again same-length
     returns)

@@ -11,42 +11,6 @@ use borrow.Author.Needs.{needs}
 use Rattle.reach.proofs.join_row.Statement.{statement}
 use Rattle.reach.proofs.join_row.Tie as tie
 
-mul-set-of : tie.Need-mul-set-of
-mul-set-of c = search needs
-
-slice-copy-out-set-of : tie.Need-slice-copy-out-set-of
-slice-copy-out-set-of c = search needs
-
-set-of-requires : tie.Need-set-of-requires
-set-of-requires c κs = search needs
-
-member-requires : tie.Need-member-requires
-member-requires c κs = search needs
-
-mul-set-of-2 : tie.Need-mul-set-of-2
-mul-set-of-2 c = search needs
-
-slice-copy-out-set-of-2 : tie.Need-slice-copy-out-set-of-2
-slice-copy-out-set-of-2 c = search needs
-
-set-of-requires-2 : tie.Need-set-of-requires-2
-set-of-requires-2 c κs = search needs
-
-union-requires : tie.Need-union-requires
-union-requires c κs = search needs
-
-row-of-requires : tie.Need-row-of-requires
-row-of-requires c κs = search needs
-
-mul-t16 : tie.Need-mul-t16
-mul-t16 c = search needs
-
-slice-set-from-rows : tie.Need-slice-set-from-rows
-slice-set-from-rows c = search needs
-
-same-length : tie.Need-same-length
-same-length c = search needs
-
 returns : tie.Need-returns
 returns c = let a = c .before .before .before .before .before .before .before .before .args in
     let k : ℕ = a .k in
@@ -67,17 +31,6 @@ pub join-row-spec : {M : Type 1} → statement M
 join-row-spec =
     tie.close
     (tie.spec
-    mul-set-of
-    slice-copy-out-set-of
-    set-of-requires
-    member-requires
-    mul-set-of-2
-    slice-copy-out-set-of-2
-    set-of-requires-2
-    union-requires
-    row-of-requires
-    mul-t16
-    slice-set-from-rows
-    same-length
-    returns
-    returns-2)
+    (λ c. search needs) (λ c. search needs) (λ c κs. search needs) (λ c κs. search needs) (λ c. search needs)
+    (λ c. search needs) (λ c κs. search needs) (λ c κs. search needs) (λ c κs. search needs) (λ c. search needs)
+    (λ c. search needs) (λ c. search needs) returns returns-2)

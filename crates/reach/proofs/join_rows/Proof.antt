@@ -18,12 +18,6 @@ loop-holds c = joining-none (c .args .rows .now) (c .args .n) (c .args .k)
 join-row-requires : tie.Need-join-row-requires Inv-loop μ-loop
 join-row-requires c κs = (omega arith, omega arith, omega arith)
 
-add-i : tie.Need-add-i Inv-loop μ-loop
-add-i c = omega arith
-
-loop-less : tie.Need-loop-less Inv-loop μ-loop
-loop-less c = omega arith
-
 loop-again : tie.Need-loop-again Inv-loop μ-loop
 loop-again c = joining-more (c .before .before .before .before .loop .inv) (omega arith) (c .before .join-row .ensures)
 
@@ -37,12 +31,5 @@ pub join-rows-spec : {M : Type 1} → statement M
 join-rows-spec =
     tie.close
     (tie.spec
-    Inv-loop
-    μ-loop
-    loop-holds
-    join-row-requires
-    add-i
-    loop-less
-    loop-again
-    same-length
+    Inv-loop μ-loop loop-holds join-row-requires (λ c. omega arith) (λ c. omega arith) loop-again same-length
     returns)

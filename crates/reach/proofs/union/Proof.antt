@@ -12,4 +12,5 @@ returns c i = let s = c .before .before .before .before .before .before .before 
     (record { fits0 = omega arith; fits1 = omega arith; fits2 = omega arith }) i
 
 pub union-spec : {M : Type 1} → statement M
-union-spec = tie.close (tie.spec returns)
+union-spec = tie.close (tie.spec
+    returns)

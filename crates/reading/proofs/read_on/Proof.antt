@@ -14,17 +14,11 @@ Inv-loop s file conds₀ bytes records macros text₀ map₀ base c₀ y₀ k₀
 abbrev μ-loop : tie.MeasureT-loop
 μ-loop s file conds₀ bytes records macros text₀ map₀ base c₀ y₀ k₀ conds text map c y k = length s - c .at
 
-place-of-requires : tie.Need-place-of-requires Inv-loop μ-loop
-place-of-requires c κs = search needs
-
 loop-holds : tie.Need-loop-holds Inv-loop μ-loop
 loop-holds c = onward-none (c .before .before .before .before .before .pre .1) (c .before .before .before .before .before .pre .2)
 
 pass-on-requires : tie.Need-pass-on-requires Inv-loop μ-loop
 pass-on-requires c κs = rw (c .before .before .before .place-of .ensures) (c .before .before .loop .inv .copyable)
-
-enum-known-r : tie.Need-enum-known-r Inv-loop μ-loop
-enum-known-r c = search needs
 
 same-length : tie.Need-same-length Inv-loop μ-loop
 same-length c = c .before .before .before .before .before .before .before .before .before .before .loop .inv .same-conds
@@ -37,9 +31,6 @@ same-length-3 c = c .before .before .before .before .before .before .before .pas
 
 returns : tie.Need-returns Inv-loop μ-loop
 returns c = answers-full (c .before .before .before .before .before .before .before .before .before .before .loop .inv) (c .before .before .before .before .before .before .before .before .before .before .before .place-of .ensures) (c .before .before .before .before .before .before .before .pass-on .ensures) (c .before .r .given .1)
-
-enum-known-r-2 : tie.Need-enum-known-r-2 Inv-loop μ-loop
-enum-known-r-2 c = search needs
 
 -- up to the token that stops
 stopped : (c : tie.After-known-told2 Inv-loop μ-loop) → Stopped (c .before .before .before .before .before .before .before .before .before .before .before .before .before .before .before .before .args .s .now) (c .before .before .before .before .before .before .before .before .before .before .before .before .before .before .before .before .args .file) (c .before .before .before .before .before .before .before .before .before .before .before .before .before .before .before .before .args .bytes .now) (c .before .before .before .before .before .before .before .before .before .before .before .before .before .before .before .before .args .records .now) (c .before .before .before .before .before .before .before .before .before .before .before .before .before .before .before .before .args .macros) (c .before .before .before .before .before .before .before .before .before .before .before .before .before .before .before .before .args .conds .now) (c .before .before .before .before .before .before .before .before .before .before .loop .conds) (c .before .before .before .before .before .before .before .before .before .before .before .before .before .before .before .before .args .text .now) (c .before .before .before .before .before .before .before .pass-on .last .1 .1 .0) (c .before .before .before .before .before .before .before .before .before .before .before .before .before .before .before .before .args .map .now) (c .before .before .before .before .before .before .before .pass-on .last .1 .1 .1 .0) (c .before .before .before .before .before .before .before .before .before .before .before .before .before .before .before .before .args .start) (c .before .before .before .before .before .before .before .before .before .before .loop .c) (c .before .r2 .given .0 .0) (c .before .before .before .before .before .before .before .before .before .before .before .before .before .before .before .before .args .spot) (c .before .r2 .given .0 .1 .0) (c .before .before .before .before .before .before .before .before .before .before .before .before .before .before .before .before .args .blocks) (c .before .before .before .before .before .before .before .before .before .before .loop .k) (c .before .r2 .given .0 .1 .1 .0)
@@ -57,12 +48,6 @@ same-length-6 c = c .before .before .before .before .before .before .before .bef
 returns-2 : tie.Need-returns-2 Inv-loop μ-loop
 returns-2 c = answers-barred (stopped (c .before .before)) (c .if1 .taken)
 
-part-of-requires : tie.Need-part-of-requires Inv-loop μ-loop
-part-of-requires c κs = search needs
-
-directive-of-requires : tie.Need-directive-of-requires Inv-loop μ-loop
-directive-of-requires c κs = search needs
-
 same-length-7 : tie.Need-same-length-7 Inv-loop μ-loop
 same-length-7 c = c .before .before .before .before .before .before .before .before .before .before .before .before .before .before .before .loop .inv .same-conds
 
@@ -78,20 +63,11 @@ returns-3 c = answers-upto (stopped (c .before .before .before .before .before))
 choose-requires : tie.Need-choose-requires Inv-loop μ-loop
 choose-requires c κs = (c .before .before .before .before .before .before .before .before .before .before .before .before .before .before .before .before .loop .inv .blocks-are, c .before .before .before .before .before .before .before .before .before .before .before .before .before .before .before .before .before .before .before .before .before .before .pre .3)
 
-enum-known-x : tie.Need-enum-known-x Inv-loop μ-loop
-enum-known-x c = search needs
-
-cursor-behind-requires : tie.Need-cursor-behind-requires Inv-loop μ-loop
-cursor-behind-requires c κs = search needs
-
 loop-less : tie.Need-loop-less Inv-loop μ-loop
 loop-less c = onward-less (stopped (c .before .before .before .before .before .before .before .before .before .before .before .before)) (c .before .before .before .before .before .before .before .before .before .before .if1 .left) (c .before .before .before .before .before .before .before .before .before .part-of .ensures) (c .before .before .before .before .before .before .before .before .directive-of .ensures) (word-low _ (c .before .before .before .before .before .before .before .if2 .left)) (word-high _ (c .before .before .before .before .before .before .before .if2 .left)) (c .before .before .before .before .before .before .before .before .before .before .before .before .before .before .before .before .before .before .before .before .before .before .before .before .before .before .before .before .pre .3) (c .before .before .before .before .before .choose .result) (c .before .before .before .before .before .choose .last .1 .1 .1 .1 .0) (c .before .before .before .before .before .choose .ensures) (c .before .before .x .given .1) (c .cursor-behind .ensures)
 
 loop-again : tie.Need-loop-again Inv-loop μ-loop
 loop-again c = onward-word (stopped (c .before .before .before .before .before .before .before .before .before .before .before .before)) (c .before .before .before .before .before .before .before .before .before .before .if1 .left) (c .before .before .before .before .before .before .before .before .before .part-of .ensures) (c .before .before .before .before .before .before .before .before .directive-of .ensures) (word-low _ (c .before .before .before .before .before .before .before .if2 .left)) (word-high _ (c .before .before .before .before .before .before .before .if2 .left)) (c .before .before .before .before .before .before .before .before .before .before .before .before .before .before .before .before .before .before .before .before .before .before .before .before .before .before .before .before .pre .3) (c .before .before .before .before .before .choose .result) (c .before .before .before .before .before .choose .last .1 .1 .1 .1 .0) (c .before .before .before .before .before .choose .ensures) (c .before .before .x .given .1) (c .cursor-behind .ensures) (c .before .before .before .before .before .choose .kept .1 .1 .1 .1 .0)
-
-enum-known-x-2 : tie.Need-enum-known-x-2 Inv-loop μ-loop
-enum-known-x-2 c = search needs
 
 same-length-10 : tie.Need-same-length-10 Inv-loop μ-loop
 same-length-10 c = c .before .before .before .before .choose .kept .1 .1 .1 .1 .0 ∙ c .before .before .before .before .before .before .before .before .before .before .before .before .before .before .before .before .before .before .before .before .before .loop .inv .same-conds
@@ -109,34 +85,8 @@ pub read-on-spec : {M : Type 1} → statement M
 read-on-spec =
     tie.close
     (tie.spec
-    Inv-loop
-    μ-loop
-    place-of-requires
-    loop-holds
-    pass-on-requires
-    enum-known-r
-    same-length
-    same-length-2
-    same-length-3
-    returns
-    enum-known-r-2
-    same-length-4
-    same-length-5
-    same-length-6
-    returns-2
-    part-of-requires
-    directive-of-requires
-    same-length-7
-    same-length-8
-    same-length-9
-    returns-3
-    choose-requires
-    enum-known-x
-    cursor-behind-requires
-    loop-less
-    loop-again
-    enum-known-x-2
-    same-length-10
-    same-length-11
-    same-length-12
-    returns-4)
+    Inv-loop μ-loop (λ c κs. search needs) loop-holds pass-on-requires (λ c. search needs) same-length
+    same-length-2 same-length-3 returns (λ c. search needs) same-length-4 same-length-5 same-length-6 returns-2
+    (λ c κs. search needs) (λ c κs. search needs) same-length-7 same-length-8 same-length-9 returns-3
+    choose-requires (λ c. search needs) (λ c κs. search needs) loop-less loop-again (λ c. search needs)
+    same-length-10 same-length-11 same-length-12 returns-4)

@@ -3,11 +3,6 @@ use Rattle.records.proofs.Testing.{tests}
 use Rattle.records.proofs.at_most.Statement.{statement}
 use Rattle.records.proofs.at_most.Tie as tie
 
-returns : tie.Need-returns
-returns c = search tests
-
-returns-2 : tie.Need-returns-2
-returns-2 c = search tests
-
 pub at-most-spec : {M : Type 1} → statement M
-at-most-spec = tie.close (tie.spec returns returns-2)
+at-most-spec = tie.close (tie.spec
+    (λ c. search tests) (λ c. search tests))

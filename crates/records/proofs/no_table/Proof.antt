@@ -9,4 +9,5 @@ unfolding noTable
 returns c = refl
 
 pub no-table-spec : {M : Type 1} → statement M
-no-table-spec = tie.close (tie.spec returns)
+no-table-spec = tie.close (tie.spec
+    returns)

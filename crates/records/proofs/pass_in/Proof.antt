@@ -5,24 +5,6 @@ use borrow.Author.Needs.{needs}
 use Rattle.records.proofs.pass_in.Statement.{statement}
 use Rattle.records.proofs.pass_in.Tie as tie
 
-write-rows-requires : tie.Need-write-rows-requires
-write-rows-requires c κs = search needs
-
-sub-pass : tie.Need-sub-pass
-sub-pass c = search needs
-
-part-pass-start : tie.Need-part-pass-start
-part-pass-start c = search needs
-
-part-pass-end : tie.Need-part-pass-end
-part-pass-end c = search needs
-
-pass-requires : tie.Need-pass-requires
-pass-requires c κs = search needs
-
-same-length : tie.Need-same-length
-same-length c = search needs
-
 returns : tie.Need-returns
 returns c =
     let a = c .before .before .before .before .before .before .before .args in
@@ -33,10 +15,5 @@ pub pass-in-spec : {M : Type 1} → statement M
 pass-in-spec =
     tie.close
     (tie.spec
-    write-rows-requires
-    sub-pass
-    part-pass-start
-    part-pass-end
-    pass-requires
-    same-length
-    returns)
+    (λ c κs. search needs) (λ c. search needs) (λ c. search needs) (λ c. search needs) (λ c κs. search needs)
+    (λ c. search needs) returns)

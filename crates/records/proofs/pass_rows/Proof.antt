@@ -9,14 +9,9 @@ use Rattle.records.proofs.pass_rows.Tie as tie
 returns : tie.Need-returns
 returns c = (λ e. true-false _ e (not-true _ (c .if1 .taken)), λ _. refl)
 
-slice-aggregate-pass-in : tie.Need-slice-aggregate-pass-in
-slice-aggregate-pass-in c = search needs
-
-pass-in-requires : tie.Need-pass-in-requires
-pass-in-requires c κs = search needs
-
 returns-2 : tie.Need-returns-2
 returns-2 c = (λ _. c .before .pass-in .ensures, λ e. true-false _ (not-false _ (c .before .before .before .if1 .left)) e)
 
 pub pass-rows-spec : {M : Type 1} → statement M
-pass-rows-spec = tie.close (tie.spec returns slice-aggregate-pass-in pass-in-requires returns-2)
+pass-rows-spec = tie.close (tie.spec
+    returns (λ c. search needs) (λ c κs. search needs) returns-2)

@@ -19,29 +19,14 @@ abbrev μ-loop : tie.MeasureT-loop
 loop-holds : tie.Need-loop-holds Inv-loop μ-loop
 loop-holds c ps sp m = trim-first sp
 
-item-at-requires : tie.Need-item-at-requires Inv-loop μ-loop
-item-at-requires c κs = search needs
-
-enum-told : tie.Need-enum-told Inv-loop μ-loop
-enum-told c = search needs
-
 returns : tie.Need-returns Inv-loop μ-loop
 returns c ps sp m = absurd (trim-none _ _ _ _ _ (c .before .before .before .before .loop .inv ps sp m) _ (c .before .before .item-at .ensures _) (c .before .before .before .loop-test .taken) m (c .enum-told .given .1))
-
-enum-known-r : tie.Need-enum-known-r Inv-loop μ-loop
-enum-known-r c = search needs
-
-is-blank-requires : tie.Need-is-blank-requires Inv-loop μ-loop
-is-blank-requires c κs = search needs
 
 loop-less : tie.Need-loop-less Inv-loop μ-loop
 loop-less c = seen-less _ (c .before .before .before .before .before .before .before .before .before .before .before .args .b .now) _ _ _ _ (c .before .before .before .before .r .given .0 .0) (c .before .before .before .before .before .before .item-at .ensures _) (c .before .before .before .before .r .given .1)
 
 loop-again : tie.Need-loop-again Inv-loop μ-loop
 loop-again c ps sp m = trim-blank _ _ _ _ _ (c .before .before .before .before .before .before .before .before .loop .inv ps sp m) _ (c .before .before .before .before .before .before .item-at .ensures _) (c .before .before .before .before .before .before .before .loop-test .taken) m (c .before .before .before .before .r .given .0 .0) (c .before .before .before .before .r .given .1) _ (c .before .is-blank .ensures) (c .if1 .taken)
-
-is-break-requires : tie.Need-is-break-requires Inv-loop μ-loop
-is-break-requires c κs = search needs
 
 loop-less-2 : tie.Need-loop-less-2 Inv-loop μ-loop
 loop-less-2 c = seen-less _ (c .before .before .before .before .before .before .before .before .before .before .before .before .before .args .b .now) _ _ _ _ (c .before .before .before .before .before .before .r .given .0 .0) (c .before .before .before .before .before .before .before .before .item-at .ensures _) (c .before .before .before .before .before .before .r .given .1)
@@ -62,19 +47,6 @@ pub argument-end-spec : {M : Type 1} → statement M
 argument-end-spec =
     tie.close
     (tie.spec
-    Inv-loop
-    μ-loop
-    loop-holds
-    item-at-requires
-    enum-told
-    returns
-    enum-known-r
-    is-blank-requires
-    loop-less
-    loop-again
-    is-break-requires
-    loop-less-2
-    loop-again-2
-    loop-less-3
-    loop-again-3
-    returns-2)
+    Inv-loop μ-loop loop-holds (λ c κs. search needs) (λ c. search needs) returns (λ c. search needs)
+    (λ c κs. search needs) loop-less loop-again (λ c κs. search needs) loop-less-2 loop-again-2 loop-less-3
+    loop-again-3 returns-2)

@@ -19,20 +19,11 @@ loop-holds c = sought-none _ _ _ _
 formal-name-requires : tie.Need-formal-name-requires Inv-loop μ-loop
 formal-name-requires c κs = omega (arith, c .before .loop .inv .moved)
 
-same-requires : tie.Need-same-requires Inv-loop μ-loop
-same-requires c κs = search needs
-
 returns : tie.Need-returns Inv-loop μ-loop
 returns c = sought-hit (c .before .before .before .before .loop .inv) (c .before .before .before .loop-test .taken) (c .before .before .formal-name .ensures) (c .before .same .ensures) (c .before .before .before .before .before .before .before .pre .0) (c .before .before .before .before .before .before .before .pre .1) (c .if1 .taken)
 
 formal-end-requires : tie.Need-formal-end-requires Inv-loop μ-loop
 formal-end-requires c κs = omega (arith, c .before .before .before .before .loop .inv .moved)
-
-add-k : tie.Need-add-k Inv-loop μ-loop
-add-k c = omega arith
-
-loop-less : tie.Need-loop-less Inv-loop μ-loop
-loop-less c = omega arith
 
 loop-again : tie.Need-loop-again Inv-loop μ-loop
 loop-again c = sought-next (c .before .before .before .before .before .loop .inv) (c .before .before .before .before .loop-test .taken) (c .before .before .before .formal-name .ensures) (c .before .before .same .ensures) (c .before .if1 .left) (c .formal-end .ensures)
@@ -44,14 +35,5 @@ pub formal-of-spec : {M : Type 1} → statement M
 formal-of-spec =
     tie.close
     (tie.spec
-    Inv-loop
-    μ-loop
-    loop-holds
-    formal-name-requires
-    same-requires
-    returns
-    formal-end-requires
-    add-k
-    loop-less
-    loop-again
-    returns-2)
+    Inv-loop μ-loop loop-holds formal-name-requires (λ c κs. search needs) returns formal-end-requires
+    (λ c. omega arith) (λ c. omega arith) loop-again returns-2)

@@ -8,23 +8,11 @@ use Rattle.replace.proofs.is_break.Tie as tie
 returns : tie.Need-returns
 returns c ps sp h = break-kind _ _ (c .before .before .before .before .before .args .t) _ (c .if1 .taken)
 
-first-byte-requires : tie.Need-first-byte-requires
-first-byte-requires c κs = search needs
-
 returns-2 : tie.Need-returns-2
 returns-2 c ps sp h = break-first _ _ (c .before .before .before .before .before .before .before .args .t) _ _ (c .before .before .if1 .left) (c .before .first-byte .ensures) (c .if2 .taken)
 
 returns-3 : tie.Need-returns-3
 returns-3 c ps sp h = break-out _ _ _ _ _ (c .before .before .before .before .before .before .before .before .before .args .t) _ _ sp (c .if3 .taken)
-
-item-at-requires : tie.Need-item-at-requires
-item-at-requires c κs = search needs
-
-enum-told : tie.Need-enum-told
-enum-told c = search needs
-
-enum-known-r : tie.Need-enum-known-r
-enum-known-r c = search needs
 
 returns-4 : tie.Need-returns-4
 returns-4 c ps sp h = absurd (break-end _ _ _ _ _ (c .before .before .before .before .before .before .before .before .before .before .before .before .args .t) _ _ sp _ (c .before .before .item-at .ensures _) (c .enum-told .given .1) (c .before .before .before .if3 .left))
@@ -36,12 +24,5 @@ pub is-break-spec : {M : Type 1} → statement M
 is-break-spec =
     tie.close
     (tie.spec
-    returns
-    first-byte-requires
-    returns-2
-    returns-3
-    item-at-requires
-    enum-told
-    enum-known-r
-    returns-4
-    returns-5)
+    returns (λ c κs. search needs) returns-2 returns-3 (λ c κs. search needs) (λ c. search needs)
+    (λ c. search needs) returns-4 returns-5)

@@ -22,20 +22,11 @@ loop-holds c = passed-none _ _ _ _
 mark-at-requires : tie.Need-mark-at-requires Inv-loop μ-loop
 mark-at-requires c κs = omega (arith, c .before .loop .inv .moved)
 
-peek-requires : tie.Need-peek-requires Inv-loop μ-loop
-peek-requires c κs = search needs
-
 returns-2 : tie.Need-returns-2 Inv-loop μ-loop
 returns-2 c = passed-short (c .before .before .before .before .loop .inv) (c .before .before .before .loop-test .taken) (c .before .before .mark-at .ensures) (c .before .peek .ensures) (c .if2 .taken)
 
 formal-end-requires : tie.Need-formal-end-requires Inv-loop μ-loop
 formal-end-requires c κs = omega (arith, c .before .before .before .before .loop .inv .moved)
-
-add-k : tie.Need-add-k Inv-loop μ-loop
-add-k c = omega arith
-
-loop-less : tie.Need-loop-less Inv-loop μ-loop
-loop-less c = omega arith
 
 loop-again : tie.Need-loop-again Inv-loop μ-loop
 loop-again c = passed-next (c .before .before .before .before .before .loop .inv) (c .before .before .before .before .loop-test .taken) (c .before .before .before .mark-at .ensures) (c .before .before .peek .ensures) (c .before .if2 .left) (c .formal-end .ensures)
@@ -47,15 +38,5 @@ pub is-enough-spec : {M : Type 1} → statement M
 is-enough-spec =
     tie.close
     (tie.spec
-    Inv-loop
-    μ-loop
-    returns
-    loop-holds
-    mark-at-requires
-    peek-requires
-    returns-2
-    formal-end-requires
-    add-k
-    loop-less
-    loop-again
-    returns-3)
+    Inv-loop μ-loop returns loop-holds mark-at-requires (λ c κs. search needs) returns-2 formal-end-requires
+    (λ c. omega arith) (λ c. omega arith) loop-again returns-3)

@@ -23,14 +23,8 @@ mul-pend-of c = omega (arith, again-in (c .before .loop .inv) (c .before .before
 slice-copy-out-pend-of : tie.Need-slice-copy-out-pend-of Inv-loop μ-loop
 slice-copy-out-pend-of c = omega (arith, again-in (c .before .loop .inv) (c .before .before .pre .1) (c .before .before .pre .0) (c .loop-test .taken))
 
-pend-of-requires : tie.Need-pend-of-requires Inv-loop μ-loop
-pend-of-requires c κs = search needs
-
 push-requires : tie.Need-push-requires Inv-loop μ-loop
 push-requires c κs = c .before .before .before .before .loop .inv .takes
-
-enum-known-r : tie.Need-enum-known-r Inv-loop μ-loop
-enum-known-r c = search needs
 
 add-i : tie.Need-add-i Inv-loop μ-loop
 add-i c = omega (arith, c .before .before .before .before .before .before .before .before .loop-test .taken)
@@ -40,9 +34,6 @@ loop-less c = omega (arith, c .before .before .before .before .before .before .b
 
 loop-again : tie.Need-loop-again Inv-loop μ-loop
 loop-again c = again-next (c .before .before .before .before .before .before .before .before .before .loop .inv) (c .before .before .before .before .before .before .before .before .before .before .pre .1) (c .before .before .before .before .before .before .before .before .before .before .pre .0) (c .before .before .before .before .before .before .before .before .loop-test .taken) (c .before .before .before .before .before .before .pend-of .ensures) (c .before .before .before .before .push .result) (c .before .before .before .before .push .last .0) (c .before .before .before .before .push .ensures) (c .before .r .given .1)
-
-enum-told : tie.Need-enum-told Inv-loop μ-loop
-enum-told c = search needs
 
 same-length : tie.Need-same-length Inv-loop μ-loop
 same-length c = c .before .before .before .push .kept .0 ∙ c .before .before .before .before .before .before .before .before .loop .inv .same-length
@@ -60,19 +51,5 @@ pub push-again-spec : {M : Type 1} → statement M
 push-again-spec =
     tie.close
     (tie.spec
-    Inv-loop
-    μ-loop
-    loop-holds
-    mul-pend-of
-    slice-copy-out-pend-of
-    pend-of-requires
-    push-requires
-    enum-known-r
-    add-i
-    loop-less
-    loop-again
-    enum-told
-    same-length
-    returns
-    same-length-2
-    returns-2)
+    Inv-loop μ-loop loop-holds mul-pend-of slice-copy-out-pend-of (λ c κs. search needs) push-requires
+    (λ c. search needs) add-i loop-less loop-again (λ c. search needs) same-length returns same-length-2 returns-2)

@@ -5,15 +5,6 @@ use borrow.Author.Needs.{needs}
 use Rattle.replace.proofs.push_argument.Statement.{statement}
 use Rattle.replace.proofs.push_argument.Tie as tie
 
-argument-end-requires : tie.Need-argument-end-requires
-argument-end-requires c κs = search needs
-
-push-kept-requires : tie.Need-push-kept-requires
-push-kept-requires c κs = search needs
-
-same-length : tie.Need-same-length
-same-length c = search needs
-
 returns : tie.Need-returns
 returns c ps sp m =
     let t = c .before .before .before .argument-end .ensures ps sp m in
@@ -21,4 +12,5 @@ returns c ps sp m =
 
 pub push-argument-spec : {M : Type 1} → statement M
 push-argument-spec =
-    tie.close (tie.spec argument-end-requires push-kept-requires same-length returns)
+    tie.close (tie.spec
+    (λ c κs. search needs) (λ c κs. search needs) (λ c. search needs) returns)

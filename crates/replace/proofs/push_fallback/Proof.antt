@@ -6,21 +6,6 @@ use borrow.Author.Needs.{needs}
 use Rattle.replace.proofs.push_fallback.Statement.{statement}
 use Rattle.replace.proofs.push_fallback.Tie as tie
 
-mark-at-requires : tie.Need-mark-at-requires
-mark-at-requires c κs = search needs
-
-add-push-default : tie.Need-add-push-default
-add-push-default c = search needs
-
-formal-end-requires : tie.Need-formal-end-requires
-formal-end-requires c κs = search needs
-
-push-default-requires : tie.Need-push-default-requires
-push-default-requires c κs = search needs
-
-same-length : tie.Need-same-length
-same-length c = search needs
-
 returns : tie.Need-returns
 returns c s f d fs h =
     let a = c .before .before .before .before .before .before .args in
@@ -32,9 +17,5 @@ pub push-fallback-spec : {M : Type 1} → statement M
 push-fallback-spec =
     tie.close
     (tie.spec
-    mark-at-requires
-    add-push-default
-    formal-end-requires
-    push-default-requires
-    same-length
+    (λ c κs. search needs) (λ c. search needs) (λ c κs. search needs) (λ c κs. search needs) (λ c. search needs)
     returns)

@@ -11,22 +11,10 @@ use Rattle.replace.proofs.Texts.{at-formal, image-value, image-kept, im
 use Rattle.replace.proofs.push_image.Statement.{statement}
 use Rattle.replace.proofs.push_image.Tie as tie
 
-part-of-requires : tie.Need-part-of-requires
-part-of-requires c κs = search needs
-
-formal-of-requires : tie.Need-formal-of-requires
-formal-of-requires c κs = search needs
-
 push-value-requires : tie.Need-push-value-requires
 push-value-requires c κs =
     let h = c .before .before .before .before .before .before .before .before .before .before .before .before .pre in
     (h .filled, omega (arith, c .before .before .if2 .taken, h .formals, h .ranges), h .placed, h .bytes, c .before .before .before .before .formal-of .ensures .1, h .takes)
-
-same-length : tie.Need-same-length
-same-length c = search needs
-
-same-length-2 : tie.Need-same-length-2
-same-length-2 c = search needs
 
 returns : tie.Need-returns
 returns c xs fs g n m r =
@@ -41,12 +29,6 @@ returns c xs fs g n m r =
 stored-ref-requires : tie.Need-stored-ref-requires
 stored-ref-requires c κs = stored-fits (c .before .before .before .before .before .before .before .before .before .before .before .pre)
 
-push-requires : tie.Need-push-requires
-push-requires c κs = search needs
-
-same-length-3 : tie.Need-same-length-3
-same-length-3 c = search needs
-
 returns-2 : tie.Need-returns-2
 returns-2 c xs fs g n m r =
     let a = c .before .before .before .before .before .before .before .before .before .before .before .before .before .before .args in
@@ -60,12 +42,6 @@ returns-2 c xs fs g n m r =
 
 stored-ref-requires-2 : tie.Need-stored-ref-requires-2
 stored-ref-requires-2 c κs = stored-fits (c .before .before .before .before .before .before .before .pre)
-
-push-requires-2 : tie.Need-push-requires-2
-push-requires-2 c κs = search needs
-
-same-length-4 : tie.Need-same-length-4
-same-length-4 c = search needs
 
 returns-3 : tie.Need-returns-3
 returns-3 c xs fs g n m r =
@@ -82,17 +58,6 @@ pub push-image-spec : {M : Type 1} → statement M
 push-image-spec =
     tie.close
     (tie.spec
-    part-of-requires
-    formal-of-requires
-    push-value-requires
-    same-length
-    same-length-2
-    returns
-    stored-ref-requires
-    push-requires
-    same-length-3
-    returns-2
-    stored-ref-requires-2
-    push-requires-2
-    same-length-4
-    returns-3)
+    (λ c κs. search needs) (λ c κs. search needs) push-value-requires (λ c. search needs) (λ c. search needs)
+    returns stored-ref-requires (λ c κs. search needs) (λ c. search needs) returns-2 stored-ref-requires-2
+    (λ c κs. search needs) (λ c. search needs) returns-3)

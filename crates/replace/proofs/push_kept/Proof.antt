@@ -20,35 +20,17 @@ abbrev μ-loop : tie.MeasureT-loop
 loop-holds : tie.Need-loop-holds Inv-loop μ-loop
 loop-holds c = (record { same-length = refl; fits = c .before .before .pre .1 .filled }, λ ps sp m. keep-first _ _ (c .before .before .pre .1) sp)
 
-item-at-requires : tie.Need-item-at-requires Inv-loop μ-loop
-item-at-requires c κs = search needs
-
-enum-told : tie.Need-enum-told Inv-loop μ-loop
-enum-told c = search needs
-
 same-length : tie.Need-same-length Inv-loop μ-loop
 same-length c = c .before .before .before .before .loop .inv .0 .same-length
 
 returns : tie.Need-returns Inv-loop μ-loop
 returns c ps sp m = absurd (keep-none _ _ _ _ _ (c .before .before .before .before .loop .inv .1 ps sp m) _ (c .before .before .item-at .ensures _) (c .before .before .before .loop-test .taken) m (c .enum-told .given .1))
 
-enum-known-r : tie.Need-enum-known-r Inv-loop μ-loop
-enum-known-r c = search needs
-
-is-break-requires : tie.Need-is-break-requires Inv-loop μ-loop
-is-break-requires c κs = search needs
-
 loop-less : tie.Need-loop-less Inv-loop μ-loop
 loop-less c = seen-less _ (c .before .before .before .before .before .before .before .before .before .before .args .b .now) _ _ _ _ (c .before .before .before .r .given .0 .0) (c .before .before .before .before .before .item-at .ensures _) (c .before .before .before .r .given .1)
 
 loop-again : tie.Need-loop-again Inv-loop μ-loop
 loop-again c = (c .before .before .before .before .before .before .before .loop .inv .0, λ ps sp m. keep-break _ _ _ _ _ (c .before .before .before .before .before .before .before .loop .inv .1 ps sp m) _ (c .before .before .before .before .before .item-at .ensures _) (c .before .before .before .before .before .before .loop-test .taken) m (c .before .before .before .r .given .0 .0) (c .before .before .before .r .given .1) _ (c .before .is-break .ensures) (c .if1 .taken))
-
-clean-requires : tie.Need-clean-requires Inv-loop μ-loop
-clean-requires c κs = search needs
-
-is-spacing-requires : tie.Need-is-spacing-requires Inv-loop μ-loop
-is-spacing-requires c κs = search needs
 
 loop-less-2 : tie.Need-loop-less-2 Inv-loop μ-loop
 loop-less-2 c = seen-less _ (c .before .before .before .before .before .before .before .before .before .before .before .before .before .args .b .now) _ _ _ _ (c .before .before .before .before .before .before .r .given .0 .0) (c .before .before .before .before .before .before .before .before .item-at .ensures _) (c .before .before .before .before .before .before .r .given .1)
@@ -59,17 +41,11 @@ loop-again-2 c = (c .before .before .before .before .before .before .before .bef
 push-requires : tie.Need-push-requires Inv-loop μ-loop
 push-requires c κs = room-takes (c .before .before .before .before .before .before .before .before .before .before .before .before .before .before .pre .1) (c .before .before .before .before .before .before .before .before .before .before .before .loop .inv .0)
 
-enum-known-q : tie.Need-enum-known-q Inv-loop μ-loop
-enum-known-q c = search needs
-
 loop-less-3 : tie.Need-loop-less-3 Inv-loop μ-loop
 loop-less-3 c = seen-less _ (c .before .before .before .before .before .before .before .before .before .before .before .before .before .before .before .before .before .before .before .args .b .now) _ _ _ _ (c .before .before .before .before .before .before .before .before .before .before .before .before .r .given .0 .0) (c .before .before .before .before .before .before .before .before .before .before .before .before .before .before .item-at .ensures _) (c .before .before .before .before .before .before .before .before .before .before .before .before .r .given .1)
 
 loop-again-3 : tie.Need-loop-again-3 Inv-loop μ-loop
 loop-again-3 c = (room-put (c .before .before .before .before .before .before .before .before .before .before .before .before .before .before .before .before .before .before .before .args .s .now) (c .before .before .before .before .before .before .before .before .before .before .before .before .before .before .before .before .before .before .before .args .b .now) (c .before .before .before .before .before .before .before .before .before .before .before .before .before .before .before .before .loop .inv .0) _ _ _ (c .before .before .before .before .push .ensures _ _) _ (c .before .q .given .1), λ ps sp m. keep-put _ _ _ _ _ (c .before .before .before .before .before .before .before .before .before .before .before .before .before .before .before .before .loop .inv .1 ps sp m) _ (c .before .before .before .before .before .before .before .before .before .before .before .before .before .before .item-at .ensures _) (c .before .before .before .before .before .before .before .before .before .before .before .before .before .before .before .loop-test .taken) m (c .before .before .before .before .before .before .before .before .before .before .before .before .r .given .0 .0) (c .before .before .before .before .before .before .before .before .before .before .before .before .r .given .1) _ (c .before .before .before .before .before .before .before .before .before .before .is-break .ensures) (c .before .before .before .before .before .before .before .before .before .if1 .left) (c .before .before .before .before .before .before .before .before .clean .result) (c .before .before .before .before .before .before .before .before .clean .ensures) _ (c .before .before .before .before .before .before .before .is-spacing .ensures) (c .before .before .before .before .before .before .if2 .left) _ _ (c .before .before .before .before .push .ensures _ _) _ (c .before .q .given .1))
-
-enum-told-2 : tie.Need-enum-told-2 Inv-loop μ-loop
-enum-told-2 c = search needs
 
 same-length-2 : tie.Need-same-length-2 Inv-loop μ-loop
 same-length-2 c = room-full (c .before .before .before .before .before .before .before .before .before .before .before .before .before .before .before .before .before .before .args .s .now) (c .before .before .before .before .before .before .before .before .before .before .before .before .before .before .before .before .before .before .args .b .now) (c .before .before .before .before .before .before .before .before .before .before .before .before .before .before .before .loop .inv .0) _ _ _ (c .before .before .before .push .ensures _ _) (c .enum-told2 .given .1)
@@ -87,27 +63,7 @@ pub push-kept-spec : {M : Type 1} → statement M
 push-kept-spec =
     tie.close
     (tie.spec
-    Inv-loop
-    μ-loop
-    loop-holds
-    item-at-requires
-    enum-told
-    same-length
-    returns
-    enum-known-r
-    is-break-requires
-    loop-less
-    loop-again
-    clean-requires
-    is-spacing-requires
-    loop-less-2
-    loop-again-2
-    push-requires
-    enum-known-q
-    loop-less-3
-    loop-again-3
-    enum-told-2
-    same-length-2
-    returns-2
-    same-length-3
-    returns-3)
+    Inv-loop μ-loop loop-holds (λ c κs. search needs) (λ c. search needs) same-length returns (λ c. search needs)
+    (λ c κs. search needs) loop-less loop-again (λ c κs. search needs) (λ c κs. search needs) loop-less-2
+    loop-again-2 push-requires (λ c. search needs) loop-less-3 loop-again-3 (λ c. search needs) same-length-2
+    returns-2 same-length-3 returns-3)

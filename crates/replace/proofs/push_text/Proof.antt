@@ -33,32 +33,8 @@ Inv-loop s b q list n file ranges₀ given set out₀ most w c count i₀ k₀ m
 abbrev μ-loop : tie.MeasureT-loop
 μ-loop s b q list n file ranges₀ given set out₀ most w c count i₀ k₀ marks₀ ranges out i k marks = length w - i
 
-add-part-of : tie.Need-add-part-of Inv-loop μ-loop
-add-part-of c = omega arith
-
-part-of-requires : tie.Need-part-of-requires Inv-loop μ-loop
-part-of-requires c κs = search needs
-
-add-c : tie.Need-add-c Inv-loop μ-loop
-add-c c = omega arith
-
-peek-requires : tie.Need-peek-requires Inv-loop μ-loop
-peek-requires c κs = search needs
-
-cast-count : tie.Need-cast-count Inv-loop μ-loop
-cast-count c = omega arith
-
 loop-holds : tie.Need-loop-holds Inv-loop μ-loop
 loop-holds c = (refl, omega arith, refl, λ fs t xs m g r. (placed-none, ready-first r g (c .before .before .before .before .before .before .pre .5 .unplaced)))
-
-in-text-requires : tie.Need-in-text-requires Inv-loop μ-loop
-in-text-requires c κs = search needs
-
-token-at-requires : tie.Need-token-at-requires Inv-loop μ-loop
-token-at-requires c κs = search needs
-
-add-push-image : tie.Need-add-push-image Inv-loop μ-loop
-add-push-image c = omega arith
 
 push-image-requires : tie.Need-push-image-requires Inv-loop μ-loop
 push-image-requires c κs =
@@ -80,12 +56,6 @@ push-image-requires c κs =
       takes = record { filled = v .1; lent = omega (arith, h .4, v .0) };
     }
 
-enum-known-r : tie.Need-enum-known-r Inv-loop μ-loop
-enum-known-r c = search needs
-
-marks-after-requires : tie.Need-marks-after-requires Inv-loop μ-loop
-marks-after-requires c κs = search needs
-
 loop-less : tie.Need-loop-less Inv-loop μ-loop
 loop-less c = omega (arith, token-past _ _ _ _ (c .before .before .before .before .before .before .before .before .before .token-at .ensures) (c .before .before .before .before .before .before .before .before .before .before .before .loop-test .taken))
 
@@ -100,9 +70,6 @@ loop-again c =
         c .before .before .before .before .before .before .push-image .ensures xs fs (m .formals) (c .before .before .before .before .before .before .before .before .before .before .before .before .before .peek .ensures ∙ m .count) g (c .before .before .before .before .before .before .before .before .before .before .before .before .loop .inv .3 fs t xs m g r .1) .1 _ (c .before .before .r .given .1),
       ),
     )
-
-enum-told : tie.Need-enum-told Inv-loop μ-loop
-enum-told c = search needs
 
 same-length : tie.Need-same-length Inv-loop μ-loop
 same-length c = c .before .before .before .before .push-image .kept .1 .1 .1 .1 .1 .0 ∙ c .before .before .before .before .before .before .before .before .before .before .loop .inv .2
@@ -128,26 +95,7 @@ pub push-text-spec : {M : Type 1} → statement M
 push-text-spec =
     tie.close
     (tie.spec
-    Inv-loop
-    μ-loop
-    add-part-of
-    part-of-requires
-    add-c
-    peek-requires
-    cast-count
-    loop-holds
-    in-text-requires
-    token-at-requires
-    add-push-image
-    push-image-requires
-    enum-known-r
-    marks-after-requires
-    loop-less
-    loop-again
-    enum-told
-    same-length
-    same-length-2
-    returns
-    same-length-3
-    same-length-4
-    returns-2)
+    Inv-loop μ-loop (λ c. omega arith) (λ c κs. search needs) (λ c. omega arith) (λ c κs. search needs)
+    (λ c. omega arith) loop-holds (λ c κs. search needs) (λ c κs. search needs) (λ c. omega arith)
+    push-image-requires (λ c. search needs) (λ c κs. search needs) loop-less loop-again (λ c. search needs)
+    same-length same-length-2 returns same-length-3 same-length-4 returns-2)

@@ -15,18 +15,6 @@ use Rattle.replace.proofs.push_value.Tie as tie
 push-given-requires : tie.Need-push-given-requires
 push-given-requires c κs = (c .before .before .before .before .pre .0, c .before .before .before .before .pre .1, c .before .before .before .before .pre .2, c .before .before .before .before .pre .5)
 
-enum-known-r : tie.Need-enum-known-r
-enum-known-r c = search needs
-
-push-fallback-requires : tie.Need-push-fallback-requires
-push-fallback-requires c κs = search needs
-
-same-length : tie.Need-same-length
-same-length c = search needs
-
-same-length-2 : tie.Need-same-length-2
-same-length-2 c = search needs
-
 returns : tie.Need-returns
 returns c xs f d fs h e g =
     let a = c .before .before .before .before .before .before .before .before .before .before .before .before .before .before .args in
@@ -42,15 +30,6 @@ returns c xs f d fs h e g =
           (c .before .push-fallback .result) z (a .most) (fallback (members (a .set)) d) y,
     )
 
-enum-told : tie.Need-enum-told
-enum-told c = search needs
-
-same-length-3 : tie.Need-same-length-3
-same-length-3 c = search needs
-
-same-length-4 : tie.Need-same-length-4
-same-length-4 c = search needs
-
 returns-2 : tie.Need-returns-2
 returns-2 c xs f d fs h e g =
     let a = c .before .before .before .before .before .before .before .before .before .before .before .args in
@@ -59,12 +38,6 @@ returns-2 c xs f d fs h e g =
           (getD (tidyAll xs) (a .k) []) (p .0) (c .before .before .r .given .1) (c .if1 .left),
       λ m q. p .1 m (c .before .before .r .given .1 ∙ q),
     )
-
-same-length-5 : tie.Need-same-length-5
-same-length-5 c = search needs
-
-same-length-6 : tie.Need-same-length-6
-same-length-6 c = search needs
 
 returns-3 : tie.Need-returns-3
 returns-3 c xs f d fs h e g =
@@ -78,16 +51,6 @@ pub push-value-spec : {M : Type 1} → statement M
 push-value-spec =
     tie.close
     (tie.spec
-    push-given-requires
-    enum-known-r
-    push-fallback-requires
-    same-length
-    same-length-2
-    returns
-    enum-told
-    same-length-3
-    same-length-4
-    returns-2
-    same-length-5
-    same-length-6
+    push-given-requires (λ c. search needs) (λ c κs. search needs) (λ c. search needs) (λ c. search needs) returns
+    (λ c. search needs) (λ c. search needs) (λ c. search needs) returns-2 (λ c. search needs) (λ c. search needs)
     returns-3)

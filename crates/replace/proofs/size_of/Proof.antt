@@ -8,17 +8,9 @@ use Rattle.pending.specs.declared.Pend.{Pend}
 use Rattle.replace.proofs.size_of.Statement.{statement}
 use Rattle.replace.proofs.size_of.Tie as tie
 
-pend-of-requires : tie.Need-pend-of-requires
-pend-of-requires c κs = search needs
-
-size-requires : tie.Need-size-requires
-size-requires c κs = search needs
-
-cast-result : tie.Need-cast-result
-cast-result c = search needs
-
 returns : tie.Need-returns
 returns c = c .size .ensures ∙ ap (λ (p : Pend). length (members (p .set))) (c .before .pend-of .ensures)
 
 pub size-of-spec : {M : Type 1} → statement M
-size-of-spec = tie.close (tie.spec pend-of-requires size-requires cast-result returns)
+size-of-spec = tie.close (tie.spec
+    (λ c κs. search needs) (λ c κs. search needs) (λ c. search needs) returns)

@@ -24,9 +24,6 @@ read c =
 end-run-requires : tie.Need-end-run-requires
 end-run-requires c κs = c .before .before .before .before .before .before .before .before .before .before .before .before .before .pre .0 .ok .blocks-are
 
-same-length : tie.Need-same-length
-same-length c = search needs
-
 returns : tie.Need-returns
 returns c = λ x ms f h. advance-ended (c .before .before .before .before .before .before .before .before .before .before .before .before .before .before .args .limit) (c .end-run .result) (c .before .before .before .before .before .before .before .before .before .before .before .before .before .before .pre .0) (c .before .before .if1 .taken) (c .end-run .ensures) x ms h
 
@@ -36,25 +33,10 @@ body-at-requires c κs = c .before .before .before .before .before .before .befo
 read-from-requires : tie.Need-read-from-requires
 read-from-requires c κs = read-lent (c .before .before .before .before .before .before .before .before .before .before .before .before .before .before .before .before .before .before .pre .0) (c .before .before .before .before .before .body-at .ensures)
 
-enum-known-r : tie.Need-enum-known-r
-enum-known-r c = search needs
-
-reached-requires : tie.Need-reached-requires
-reached-requires c κs = search needs
-
 special-requires : tie.Need-special-requires
 special-requires c κs =
     let R = read (c .before .before .before .before .before .before .before .before .before .before .before .before .before .before .before .before .before .before .before .before .before .before .before) in
     (reached-going R (c .before .before .before .before .before .before .before .before .before .before .before .before .before .before .before .before .r .given .1) (c .reached .ensures), reached-here R (c .before .before .before .before .before .before .before .before .before .before .before .before .before .before .before .before .r .given .1) (c .reached .ensures), reached-halts R (c .before .before .before .before .before .before .before .before .before .before .before .before .before .before .before .before .r .given .1) (c .reached .ensures), c .before .before .before .before .before .before .before .before .before .before .before .before .before .before .before .before .before .before .before .before .before .before .before .before .before .before .before .before .before .before .before .before .before .before .before .before .before .before .before .before .before .before .pre .1)
-
-enum-known-r-2 : tie.Need-enum-known-r-2
-enum-known-r-2 c = search needs
-
-reached-requires-2 : tie.Need-reached-requires-2
-reached-requires-2 c κs = search needs
-
-refuse-requires : tie.Need-refuse-requires
-refuse-requires c κs = search needs
 
 same-length-2 : tie.Need-same-length-2
 same-length-2 c = c .before .before .before .before .before .before .before .before .before .before .before .before .before .before .before .before .before .before .before .before .before .before .before .special .kept .1 .1 .1 .1 .1 .1 .1 .0
@@ -107,21 +89,6 @@ returns-2 c =
     (c .before .before .before .before .before .before .before .before .before .before .before .before .before .before .before .before .before .before .before .before .before .before .before .special .last .1 .1 .1 .1 .1 .1 .1 .1 .1 .1 .1 .1 .1 .1 .1 .1 .1 .1 .1 .0) (c .before .before .before .before .before .before .before .before .before .before .before .before .before .before .before .before .before .before .before .before .before .before .before .special .last .1 .1 .1 .1 .1 .1 .1 .1 .1 .1 .1 .1 .1 .1 .1 .1 .1 .1 .1 .1 .0) (c .before .before .before .before .before .before .before .before .before .before .before .before .before .before .before .before .before .before .before .before .before .before .before .special .last .1 .1 .1 .1 .1 .1 .1 .0) (c .before .before .before .before .before .before .before .before .before .before .before .before .before .before .before .before .before .before .before .before .before .before .before .special .last .1 .1 .1 .1 .1 .1 .1 .1 .0) (c .before .before .before .before .before .before .before .before .before .before .before .before .before .before .before .before .before .before .before .before .before .before .before .special .last .1 .1 .1 .1 .1 .1 .1 .1 .1 .0) (c .before .before .before .before .before .before .before .before .before .before .before .before .before .before .before .before .before .before .before .before .before .before .before .special .result)
     (c .before .before .before .before .before .before .before .before .before .before .before .before .before .before .before .before .before .before .before .before .before .before .before .special .kept .1 .1 .1 .1 .1 .1 .1 .0) (c .before .before .before .before .before .before .before .before .before .before .before .before .before .before .before .before .before .before .before .before .before .before .before .special .ensures)
 
-same-length-17 : tie.Need-same-length-17
-same-length-17 c = search needs
-
-same-length-18 : tie.Need-same-length-18
-same-length-18 c = search needs
-
-same-length-19 : tie.Need-same-length-19
-same-length-19 c = search needs
-
-same-length-20 : tie.Need-same-length-20
-same-length-20 c = search needs
-
-same-length-21 : tie.Need-same-length-21
-same-length-21 c = search needs
-
 returns-3 : tie.Need-returns-3
 returns-3 c =
     advance-stopped (read (c .before .before .before .before .before .before .before .before .before .before)) (c .before .before .before .r2 .given .1) (c .before .reached2 .ensures) (c .before .before .before .before .before .before .before .before .before .before .before .before .before .before .before .before .before .before .before .before .before .before .before .before .before .before .before .before .before .args .set) (c .before .before .before .before .before .before .before .before .before .before .before .before .before .before .before .before .before .before .before .before .before .before .before .before .before .before .before .before .before .args .limit) (c .refuse .result) (c .refuse .ensures)
@@ -130,36 +97,9 @@ pub advance-spec : {M : Type 1} → statement M
 advance-spec =
     tie.close
     (tie.spec
-    end-run-requires
-    same-length
-    returns
-    body-at-requires
-    read-from-requires
-    enum-known-r
-    reached-requires
-    special-requires
-    enum-known-r-2
-    reached-requires-2
-    refuse-requires
-    same-length-2
-    same-length-3
-    same-length-4
-    same-length-5
-    same-length-6
-    same-length-7
-    same-length-8
-    same-length-9
-    same-length-10
-    same-length-11
-    same-length-12
-    same-length-13
-    same-length-14
-    same-length-15
-    same-length-16
-    returns-2
-    same-length-17
-    same-length-18
-    same-length-19
-    same-length-20
-    same-length-21
+    end-run-requires (λ c. search needs) returns body-at-requires read-from-requires (λ c. search needs)
+    (λ c κs. search needs) special-requires (λ c. search needs) (λ c κs. search needs) (λ c κs. search needs)
+    same-length-2 same-length-3 same-length-4 same-length-5 same-length-6 same-length-7 same-length-8 same-length-9
+    same-length-10 same-length-11 same-length-12 same-length-13 same-length-14 same-length-15 same-length-16
+    returns-2 (λ c. search needs) (λ c. search needs) (λ c. search needs) (λ c. search needs) (λ c. search needs)
     returns-3)

@@ -9,25 +9,12 @@ use Rattle.running.proofs.end_run.Tie as tie
 returns : tie.Need-returns
 returns c = run-ended _ (c .before .before .args .z) (c .if1 .taken)
 
-sub-v : tie.Need-sub-v
-sub-v c = search needs
-
-mul-v : tie.Need-mul-v
-mul-v c = search needs
-
-shared-slice-copy-out-v : tie.Need-shared-slice-copy-out-v
-shared-slice-copy-out-v c = search needs
-
-array-read-t7 : tie.Need-array-read-t7
-array-read-t7 c = search needs
-
-array-read-t8 : tie.Need-array-read-t8
-array-read-t8 c = search needs
-
 returns-2 : tie.Need-returns-2
 returns-2 c = run-open _ (c .before .before .before .args .z) _ (c .before .if1 .left) (c .before .before .before .pre) refl
 
 pub end-run-spec : {M : Type 1} → statement M
 end-run-spec =
     tie.close
-    (tie.spec returns sub-v mul-v shared-slice-copy-out-v array-read-t7 array-read-t8 returns-2)
+    (tie.spec
+    returns (λ c. search needs) (λ c. search needs) (λ c. search needs) (λ c. search needs) (λ c. search needs)
+    returns-2)

@@ -12,25 +12,12 @@ use Rattle.script.proofs.field_at.Tie as tie
 within : (s : List ℕ) (a e : ℕ) → length (part s a e) ≤ length s
 within s a e = omega (arith, length-take (e - a) (drop a s), length-drop a s)
 
-number-at-requires : tie.Need-number-at-requires
-number-at-requires c κs = search needs
-
-add-part-of : tie.Need-add-part-of
-add-part-of c = search needs
-
-add-part-of-2 : tie.Need-add-part-of-2
-add-part-of-2 c = search needs
-
-add-part-of-3 : tie.Need-add-part-of-3
-add-part-of-3 c = search needs
-
-part-of-requires : tie.Need-part-of-requires
-part-of-requires c κs = search needs
-
 returns : tie.Need-returns
 returns c = rw (c .part-of .ensures) (within (c .before .before .before .args .s .now) (c .before .before .before .args .at + 4) (c .before .before .before .args .at + 4 + c .before .number-at .result))
 
 pub field-at-spec : {M : Type 1} → statement M
 field-at-spec =
     tie.close
-    (tie.spec number-at-requires add-part-of add-part-of-2 add-part-of-3 part-of-requires returns)
+    (tie.spec
+    (λ c κs. search needs) (λ c. search needs) (λ c. search needs) (λ c. search needs) (λ c κs. search needs)
+    returns)

@@ -9,29 +9,17 @@ use Rattle.sets.proofs.Words.{aboveFirst, aboveSecond, insert-0, insert
 use Rattle.sets.proofs.insert.Statement.{statement}
 use Rattle.sets.proofs.insert.Tie as tie
 
-with-bit-requires : tie.Need-with-bit-requires
-with-bit-requires c κs = search needs
-
 returns : tie.Need-returns
 unfolding members value
 returns c = let s = c .before .before .args .s in ap (λ (w : ℕ). bitsOf 256 (w + 2 ^ 64 * aboveFirst s) 0) (c .with-bit .ensures) ∙ insert-0 s (c .before .before .args .i) (omega arith)
-
-with-bit-requires-2 : tie.Need-with-bit-requires-2
-with-bit-requires-2 c κs = search needs
 
 returns-2 : tie.Need-returns-2
 unfolding members value
 returns-2 c = let s = c .before .before .before .args .s in ap (λ (w : ℕ). bitsOf 256 (s .w0 + 2 ^ 64 * (w + 2 ^ 64 * aboveSecond s)) 0) (c .with-bit2 .ensures) ∙ insert-1 s (c .before .before .before .args .i) (omega arith) (omega arith) (omega arith)
 
-with-bit-requires-3 : tie.Need-with-bit-requires-3
-with-bit-requires-3 c κs = search needs
-
 returns-3 : tie.Need-returns-3
 unfolding members value
 returns-3 c = let s = c .before .before .before .before .args .s in ap (λ (w : ℕ). bitsOf 256 (s .w0 + 2 ^ 64 * (s .w1 + 2 ^ 64 * (w + 2 ^ 64 * s .w3))) 0) (c .with-bit3 .ensures) ∙ insert-2 s (c .before .before .before .before .args .i) (omega arith) (omega arith) (omega arith) (omega arith)
-
-with-bit-requires-4 : tie.Need-with-bit-requires-4
-with-bit-requires-4 c κs = search needs
 
 returns-4 : tie.Need-returns-4
 unfolding members value
@@ -41,11 +29,5 @@ pub insert-spec : {M : Type 1} → statement M
 insert-spec =
     tie.close
     (tie.spec
-    with-bit-requires
-    returns
-    with-bit-requires-2
-    returns-2
-    with-bit-requires-3
-    returns-3
-    with-bit-requires-4
-    returns-4)
+    (λ c κs. search needs) returns (λ c κs. search needs) returns-2 (λ c κs. search needs) returns-3
+    (λ c κs. search needs) returns-4)

@@ -7,26 +7,14 @@ use Rattle.sets.proofs.Words.{member-0, member-1, member-2, member-3}
 use Rattle.sets.proofs.member.Statement.{statement}
 use Rattle.sets.proofs.member.Tie as tie
 
-bit-requires : tie.Need-bit-requires
-bit-requires c κs = search needs
-
 returns : tie.Need-returns
 returns c = let a = c .before .before .args in c .bit .ensures ∙ sym (member-0 (a .s) (a .i) (omega arith))
-
-bit-requires-2 : tie.Need-bit-requires-2
-bit-requires-2 c κs = search needs
 
 returns-2 : tie.Need-returns-2
 returns-2 c = let a = c .before .before .before .args in c .bit2 .ensures ∙ sym (member-1 (a .s) (a .i) (omega arith) (omega arith) (omega arith))
 
-bit-requires-3 : tie.Need-bit-requires-3
-bit-requires-3 c κs = search needs
-
 returns-3 : tie.Need-returns-3
 returns-3 c = let a = c .before .before .before .before .args in c .bit3 .ensures ∙ sym (member-2 (a .s) (a .i) (omega arith) (omega arith) (omega arith) (omega arith))
-
-bit-requires-4 : tie.Need-bit-requires-4
-bit-requires-4 c κs = search needs
 
 returns-4 : tie.Need-returns-4
 returns-4 c = let a = c .before .before .before .before .args in c .bit4 .ensures ∙ sym (member-3 (a .s) (a .i) (omega arith) (omega arith) (omega arith) (omega arith) (omega arith))
@@ -35,11 +23,5 @@ pub member-spec : {M : Type 1} → statement M
 member-spec =
     tie.close
     (tie.spec
-    bit-requires
-    returns
-    bit-requires-2
-    returns-2
-    bit-requires-3
-    returns-3
-    bit-requires-4
-    returns-4)
+    (λ c κs. search needs) returns (λ c κs. search needs) returns-2 (λ c κs. search needs) returns-3
+    (λ c κs. search needs) returns-4)

@@ -19,4 +19,5 @@ returns : tie.Need-returns
 returns c = size-of (c .before .before .before .before .args .s) (omega arith) (omega arith) (omega arith) (omega arith)
 
 pub size-spec : {M : Type 1} → statement M
-size-spec = tie.close (tie.spec add-result add-result-2 add-result-3 returns)
+size-spec = tie.close (tie.spec
+    add-result add-result-2 add-result-3 returns)

@@ -12,15 +12,9 @@ use Rattle.sets.proofs.Bits.{odd-or-even, bit-fits}
 use Rattle.sets.proofs.with_bit.Statement.{statement}
 use Rattle.sets.proofs.with_bit.Tie as tie
 
-bit-requires : tie.Need-bit-requires
-bit-requires c κs = search needs
-
 returns : tie.Need-returns
 unfolding put
 returns c = rw (sym (c .before .bit .ensures) ∙ c .if1 .taken)
-
-shl-result : tie.Need-shl-result
-shl-result c = search needs
 
 -- the bit that the test found unset
 unset : (c : tie.Else1) → c .before .before .args .w / 2 ^ c .before .before .args .k % 2 ≡ 0
@@ -38,4 +32,5 @@ unfolding put
 returns-2 c = let a = c .before .before .args in let p : 2 ^ a .k < 2 ^ 64 = pow-lt {j = 64} (omega arith) in rw (sym (c .before .bit .ensures) ∙ c .if1 .left) (omega arith)
 
 pub with-bit-spec : {M : Type 1} → statement M
-with-bit-spec = tie.close (tie.spec bit-requires returns shl-result add-result returns-2)
+with-bit-spec = tie.close (tie.spec
+    (λ c κs. search needs) returns (λ c. search needs) add-result returns-2)

@@ -7,38 +7,14 @@ use borrow.Author.Needs.{needs}
 use Rattle.store.proofs.define.Statement.{statement}
 use Rattle.store.proofs.define.Tie as tie
 
-part-of-requires : tie.Need-part-of-requires
-part-of-requires c κs = search needs
-
-find-requires : tie.Need-find-requires
-find-requires c κs = search needs
-
-enum-known-f : tie.Need-enum-known-f
-enum-known-f c = search needs
-
 redefine-requires : tie.Need-redefine-requires
 redefine-requires c κs = (found-below (c .before .before .before .before .before .before .part-of .result .now) (c .before .before .before .before .before .before .before .before .before .before .before .pre .stored .holds) (c .before .before .before .before .before .find .ensures (c .before .before .before .before .before .before .before .before .before .before .before .pre .stored .macros) (c .before .before .before .before .before .before .before .before .before .before .before .pre .stored .holds)) _ (c .before .before .before .f .given .1), c .before .before .before .before .before .before .before .before .before .before .before .pre)
-
-enum-known-f-2 : tie.Need-enum-known-f-2
-enum-known-f-2 c = search needs
 
 define-new-requires : tie.Need-define-new-requires
 define-new-requires c κs = (missing-place (c .before .before .before .before .before .before .before .before .before .before .before .pre .stored .holds) (c .before .before .before .before .before .before .part-of .result .now) (c .before .before .before .before .before .find .ensures (c .before .before .before .before .before .before .before .before .before .before .before .pre .stored .macros) (c .before .before .before .before .before .before .before .before .before .before .before .pre .stored .holds)) (c .before .before .before .f2 .given .1), c .before .before .before .before .before .before .before .before .before .before .before .pre)
 
-same-length : tie.Need-same-length
-same-length c = search needs
-
-same-length-2 : tie.Need-same-length-2
-same-length-2 c = search needs
-
 returns : tie.Need-returns
 returns c ms m h g = define-found g (c .before .before .before .before .before .before .before .before .before .before .part-of .ensures) (c .before .before .before .before .before .before .before .before .before .find .ensures ms h) (At (c .before .before .before .before .before .before .before .f .given .0 .0)) (c .before .before .before .before .before .before .before .f .given .1) (c .before .before .before .redefine .ensures ms m h g)
-
-same-length-3 : tie.Need-same-length-3
-same-length-3 c = search needs
-
-same-length-4 : tie.Need-same-length-4
-same-length-4 c = search needs
 
 returns-2 : tie.Need-returns-2
 returns-2 c ms m h g = define-found g (c .before .before .before .before .before .before .before .before .before .before .part-of .ensures) (c .before .before .before .before .before .before .before .before .before .find .ensures ms h) (Missing (c .before .before .before .before .before .before .before .f2 .given .0 .0)) (c .before .before .before .before .before .before .before .f2 .given .1) (c .before .before .before .define-new .ensures ms m h g)
@@ -47,15 +23,6 @@ pub define-spec : {M : Type 1} → statement M
 define-spec =
     tie.close
     (tie.spec
-    part-of-requires
-    find-requires
-    enum-known-f
-    redefine-requires
-    enum-known-f-2
-    define-new-requires
-    same-length
-    same-length-2
-    returns
-    same-length-3
-    same-length-4
+    (λ c κs. search needs) (λ c κs. search needs) (λ c. search needs) redefine-requires (λ c. search needs)
+    define-new-requires (λ c. search needs) (λ c. search needs) returns (λ c. search needs) (λ c. search needs)
     returns-2)

@@ -5,17 +5,8 @@ use borrow.Author.Needs.{needs}
 use Rattle.store.proofs.define_new.Statement.{statement}
 use Rattle.store.proofs.define_new.Tie as tie
 
-start-of-requires : tie.Need-start-of-requires
-start-of-requires c κs = search needs
-
-same-length : tie.Need-same-length
-same-length c = search needs
-
 returns : tie.Need-returns
 returns c = no-number (c .before .before .before .before .before .pre .0) (c .before .start-of .ensures) (c .if1 .taken)
-
-same-length-2 : tie.Need-same-length-2
-same-length-2 c = search needs
 
 returns-2 : tie.Need-returns-2
 returns-2 c = no-record (c .before .before .before .before .before .before .pre .0) (c .before .before .start-of .ensures) (c .before .if1 .left) (c .if2 .taken)
@@ -23,23 +14,11 @@ returns-2 c = no-record (c .before .before .before .before .before .before .pre 
 sub-if3 : tie.Need-sub-if3
 sub-if3 c = live-fits (c .before .before .start-of .ensures) (c .before .before .before .before .before .before .pre .1 .stored .holds)
 
-same-length-3 : tie.Need-same-length-3
-same-length-3 c = search needs
-
 returns-3 : tie.Need-returns-3
 returns-3 c = no-bytes (c .before .before .before .before .before .before .before .pre .0) (c .before .before .before .start-of .ensures) (c .before .before .if1 .left) (c .before .if2 .left) (c .if3 .taken)
 
 insert-at-requires : tie.Need-insert-at-requires
 insert-at-requires c κs = inserts (c .before .before .before .before .before .before .before .before .before .pre .0) (c .before .before .before .before .before .start-of .ensures) (c .before .before .before .before .if1 .left) (c .before .before .before .if2 .left) (c .before .before .if3 .left) (c .before .before .before .before .before .before .before .before .before .pre .1)
-
-add-t12 : tie.Need-add-t12
-add-t12 c = search needs
-
-same-length-4 : tie.Need-same-length-4
-same-length-4 c = search needs
-
-same-length-5 : tie.Need-same-length-5
-same-length-5 c = search needs
 
 returns-4 : tie.Need-returns-4
 returns-4 c = put-in (c .before .before .before .before .before .before .before .before .before .before .before .before .before .pre .0) (c .before .before .before .before .before .before .before .before .before .start-of .ensures) (c .before .before .before .before .before .before .before .before .if1 .left) (c .before .before .before .before .before .before .before .if2 .left) (c .before .before .before .before .before .before .if3 .left) (c .before .before .before .insert-at .ensures)
@@ -48,16 +27,5 @@ pub define-new-spec : {M : Type 1} → statement M
 define-new-spec =
     tie.close
     (tie.spec
-    start-of-requires
-    same-length
-    returns
-    same-length-2
-    returns-2
-    sub-if3
-    same-length-3
-    returns-3
-    insert-at-requires
-    add-t12
-    same-length-4
-    same-length-5
-    returns-4)
+    (λ c κs. search needs) (λ c. search needs) returns (λ c. search needs) returns-2 sub-if3 (λ c. search needs)
+    returns-3 insert-at-requires (λ c. search needs) (λ c. search needs) (λ c. search needs) returns-4)

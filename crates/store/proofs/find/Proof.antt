@@ -28,26 +28,11 @@ loop-holds c = (omega arith, λ ms h. refl)
 order-at-requires : tie.Need-order-at-requires Inv-loop μ-loop
 order-at-requires c κs = c .loop-test .taken
 
-enum-told : tie.Need-enum-told Inv-loop μ-loop
-enum-told c = search needs
-
 returns : tie.Need-returns Inv-loop μ-loop
 returns c = turn (c .before .before .before .before .before .before .before .args .w .now) (c .before .before .before .loop-test .taken) (c .before .before .before .before .loop .inv .1) (c .before .before .order-at .ensures) Less (c .enum-told .given .1)
 
-enum-told-2 : tie.Need-enum-told-2 Inv-loop μ-loop
-enum-told-2 c = search needs
-
 returns-2 : tie.Need-returns-2 Inv-loop μ-loop
 returns-2 c = turn (c .before .before .before .before .before .before .before .args .w .now) (c .before .before .before .loop-test .taken) (c .before .before .before .before .loop .inv .1) (c .before .before .order-at .ensures) Equal (c .enum-told2 .given .1)
-
-enum-told-3 : tie.Need-enum-told-3 Inv-loop μ-loop
-enum-told-3 c = search needs
-
-add-i : tie.Need-add-i Inv-loop μ-loop
-add-i c = search needs
-
-loop-less : tie.Need-loop-less Inv-loop μ-loop
-loop-less c = search needs
 
 loop-again : tie.Need-loop-again Inv-loop μ-loop
 loop-again c = (omega arith, turn (c .before .before .before .before .before .before .before .args .w .now) (c .before .before .before .loop-test .taken) (c .before .before .before .before .loop .inv .1) (c .before .before .order-at .ensures) Greater (c .enum-told3 .given .1))
@@ -59,16 +44,5 @@ pub find-spec : {M : Type 1} → statement M
 find-spec =
     tie.close
     (tie.spec
-    Inv-loop
-    μ-loop
-    loop-holds
-    order-at-requires
-    enum-told
-    returns
-    enum-told-2
-    returns-2
-    enum-told-3
-    add-i
-    loop-less
-    loop-again
-    returns-3)
+    Inv-loop μ-loop loop-holds order-at-requires (λ c. search needs) returns (λ c. search needs) returns-2
+    (λ c. search needs) (λ c. search needs) (λ c. search needs) loop-again returns-3)

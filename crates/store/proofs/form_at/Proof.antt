@@ -7,17 +7,12 @@ use borrow.Author.Needs.{needs}
 use Rattle.store.proofs.form_at.Statement.{statement}
 use Rattle.store.proofs.form_at.Tie as tie
 
-read-requires : tie.Need-read-requires
-read-requires c κs = search needs
-
 add-part-of : tie.Need-add-part-of
 add-part-of c = omega (arith, c .before .read .ensures .text-small, c .before .read .ensures .size-small)
-
-part-of-requires : tie.Need-part-of-requires
-part-of-requires c κs = search needs
 
 returns : tie.Need-returns
 returns c ms h = c .part-of .ensures ∙ part-form (entry h (c .before .before .before .before .args .i) (c .before .before .before .before .pre)) (c .before .before .read .ensures)
 
 pub form-at-spec : {M : Type 1} → statement M
-form-at-spec = tie.close (tie.spec read-requires add-part-of part-of-requires returns)
+form-at-spec = tie.close (tie.spec
+    (λ c κs. search needs) add-part-of (λ c κs. search needs) returns)

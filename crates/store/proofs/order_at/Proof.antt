@@ -8,17 +8,8 @@ use borrow.Author.Needs.{needs}
 use Rattle.store.proofs.order_at.Statement.{statement}
 use Rattle.store.proofs.order_at.Tie as tie
 
-read-requires : tie.Need-read-requires
-read-requires c κs = search needs
-
 add-part-of : tie.Need-add-part-of
 add-part-of c = omega (arith, c .before .read .ensures .start-small, c .before .read .ensures .name-small)
-
-part-of-requires : tie.Need-part-of-requires
-part-of-requires c κs = search needs
-
-compare-requires : tie.Need-compare-requires
-compare-requires c κs = search needs
 
 returns : tie.Need-returns
 returns c ms h =
@@ -27,4 +18,5 @@ returns c ms h =
 
 pub order-at-spec : {M : Type 1} → statement M
 order-at-spec =
-    tie.close (tie.spec read-requires add-part-of part-of-requires compare-requires returns)
+    tie.close (tie.spec
+    (λ c κs. search needs) add-part-of (λ c κs. search needs) (λ c κs. search needs) returns)

@@ -7,17 +7,8 @@ use borrow.Author.Needs.{needs}
 use Rattle.store.proofs.replace_at.Statement.{statement}
 use Rattle.store.proofs.replace_at.Tie as tie
 
-read-requires : tie.Need-read-requires
-read-requires c κs = search needs
-
-add-size : tie.Need-add-size
-add-size c = search needs
-
 sub-size : tie.Need-sub-size
 sub-size c = old-ordered (c .before .before .before .before .before .pre .lent .stored .holds) (c .before .before .before .before .before .pre .place) (c .before .read .ensures)
-
-start-of-requires : tie.Need-start-of-requires
-start-of-requires c κs = search needs
 
 splice-requires : tie.Need-splice-requires
 splice-requires c κs = splice-room (c .before .before .before .before .before .before .before .before .pre) (c .before .before .before .before .read .ensures) (c .before .start-of .ensures)
@@ -31,17 +22,8 @@ sub-shift c = text-within (c .before .before .before .before .before .before .be
 replace-requires : tie.Need-replace-requires
 replace-requires c κs = row-there (c .before .before .before .before .before .before .before .before .before .before .before .before .pre)
 
-add-shift : tie.Need-add-shift
-add-shift c = search needs
-
 shift-requires : tie.Need-shift-requires
 shift-requires c κs = (rows-there (c .before .before .before .before .before .before .before .before .before .before .before .before .before .before .before .pre) (c .before .before .replace .last .0) _ (c .before .before .replace .ensures), form-small (c .before .before .before .before .before .before .before .before .before .before .before .before .before .before .before .pre))
-
-same-length : tie.Need-same-length
-same-length c = search needs
-
-same-length-2 : tie.Need-same-length-2
-same-length-2 c = search needs
 
 returns : tie.Need-returns
 returns c = replaced (c .before .before .before .before .before .before .before .before .before .before .before .before .before .before .before .before .before .pre) (c .before .before .before .before .before .before .before .before .before .before .before .before .before .read .ensures) (c .before .before .before .before .before .before .before .before .before .before .start-of .ensures) (c .before .before .before .before .before .before .before .before .splice .ensures) (c .before .before .before .before .replace .ensures) (c .before .shift .ensures)
@@ -50,16 +32,5 @@ pub replace-at-spec : {M : Type 1} → statement M
 replace-at-spec =
     tie.close
     (tie.spec
-    read-requires
-    add-size
-    sub-size
-    start-of-requires
-    splice-requires
-    add-t16
-    sub-shift
-    replace-requires
-    add-shift
-    shift-requires
-    same-length
-    same-length-2
-    returns)
+    (λ c κs. search needs) (λ c. search needs) sub-size (λ c κs. search needs) splice-requires add-t16 sub-shift
+    replace-requires (λ c. search needs) shift-requires (λ c. search needs) (λ c. search needs) returns)

@@ -10,12 +10,6 @@ use Rattle.store.proofs.start_of.Tie as tie
 returns : tie.Need-returns
 returns c ms b h = sym (ap (start ms) (c .if1 .taken) ∙ encode-none)
 
-sub-read : tie.Need-sub-read
-sub-read c = search needs
-
-read-requires : tie.Need-read-requires
-read-requires c κs = search needs
-
 add-result : tie.Need-add-result
 add-result c = omega (arith, c .before .read .ensures .text-small, c .before .read .ensures .size-small)
 
@@ -23,4 +17,5 @@ returns-2 : tie.Need-returns-2
 returns-2 c ms b h = end-is h (c .before .before .before .args .i) (c .before .before .if1 .left) (c .before .before .before .pre) (c .before .read .ensures)
 
 pub start-of-spec : {M : Type 1} → statement M
-start-of-spec = tie.close (tie.spec returns sub-read read-requires add-result returns-2)
+start-of-spec = tie.close (tie.spec
+    returns (λ c. search needs) (λ c κs. search needs) add-result returns-2)

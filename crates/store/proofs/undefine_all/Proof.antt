@@ -7,20 +7,11 @@ use borrow.Author.Needs.{needs}
 use Rattle.store.proofs.undefine_all.Statement.{statement}
 use Rattle.store.proofs.undefine_all.Tie as tie
 
-start-of-requires : tie.Need-start-of-requires
-start-of-requires c κs = search needs
-
 clear-requires : tie.Need-clear-requires
 clear-requires c κs = live-fits (c .before .start-of .ensures) (c .before .before .before .before .pre .holds)
 
 clear-records-requires : tie.Need-clear-records-requires
 clear-records-requires c κs = rows-fit (c .before .before .before .before .before .before .before .before .pre .holds)
-
-same-length : tie.Need-same-length
-same-length c = search needs
-
-same-length-2 : tie.Need-same-length-2
-same-length-2 c = search needs
 
 returns : tie.Need-returns
 returns c = emptied (c .before .before .before .before .before .before .before .before .before .before .pre .holds) (live-is (c .before .before .before .before .before .before .before .start-of .ensures) (c .before .before .before .before .before .before .before .before .before .before .pre .holds)) (c .before .before .before .before .before .clear .ensures) (c .before .clear-records .ensures)
@@ -29,9 +20,4 @@ pub undefine-all-spec : {M : Type 1} → statement M
 undefine-all-spec =
     tie.close
     (tie.spec
-    start-of-requires
-    clear-requires
-    clear-records-requires
-    same-length
-    same-length-2
-    returns)
+    (λ c κs. search needs) clear-requires clear-records-requires (λ c. search needs) (λ c. search needs) returns)

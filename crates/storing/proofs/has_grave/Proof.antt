@@ -24,26 +24,11 @@ loop-holds c = refl
 returns : tie.Need-returns Inv-loop μ-loop
 returns c = sym (grave-out _ _ _ _ (c .if1 .taken)) ∙ c .before .before .loop .inv
 
-in-definition-requires : tie.Need-in-definition-requires Inv-loop μ-loop
-in-definition-requires c κs = search needs
-
-token-at-requires : tie.Need-token-at-requires Inv-loop μ-loop
-token-at-requires c κs = search needs
-
 returns-2 : tie.Need-returns-2 Inv-loop μ-loop
 returns-2 c = sym (grave-stop _ _ _ _ _ _ (c .before .before .before .in-definition .ensures) (c .before .before .token-at .ensures) (c .before .before .before .before .if1 .left) (c .if2 .taken)) ∙ c .before .before .before .before .before .before .loop .inv
 
-is-free-requires : tie.Need-is-free-requires Inv-loop μ-loop
-is-free-requires c κs = search needs
-
-holds-in-requires : tie.Need-holds-in-requires Inv-loop μ-loop
-holds-in-requires c κs = search needs
-
 returns-3 : tie.Need-returns-3 Inv-loop μ-loop
 returns-3 c = sym (grave-hit _ _ _ _ _ _ (c .before .before .before .before .before .before .in-definition .ensures) (c .before .before .before .before .before .token-at .ensures) (c .before .before .before .before .before .before .before .if1 .left) (c .before .before .before .if2 .left) (c .before .before .before .before .before .before .before .before .loop-test .taken) _ _ (c .before .before .is-free .ensures) (c .before .holds-in .ensures) (c .if3 .taken)) ∙ c .before .before .before .before .before .before .before .before .before .loop .inv
-
-marks-after-requires : tie.Need-marks-after-requires Inv-loop μ-loop
-marks-after-requires c κs = search needs
 
 loop-less : tie.Need-loop-less Inv-loop μ-loop
 loop-less c = omega (arith, c .before .before .before .before .before .before .before .before .before .loop-test .taken, token-past _ _ _ _ (c .before .before .before .before .before .before .token-at .ensures) (c .before .before .before .before .before .before .before .before .if1 .left))
@@ -58,17 +43,5 @@ pub has-grave-spec : {M : Type 1} → statement M
 has-grave-spec =
     tie.close
     (tie.spec
-    Inv-loop
-    μ-loop
-    loop-holds
-    returns
-    in-definition-requires
-    token-at-requires
-    returns-2
-    is-free-requires
-    holds-in-requires
-    returns-3
-    marks-after-requires
-    loop-less
-    loop-again
-    returns-4)
+    Inv-loop μ-loop loop-holds returns (λ c κs. search needs) (λ c κs. search needs) returns-2
+    (λ c κs. search needs) (λ c κs. search needs) returns-3 (λ c κs. search needs) loop-less loop-again returns-4)

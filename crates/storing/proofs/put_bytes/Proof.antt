@@ -25,14 +25,8 @@ same-length c = adding-length (c .before .before .loop .inv)
 returns : tie.Need-returns Inv-loop μ-loop
 returns c = adding-end (c .before .before .loop .inv) (part-out _ _ _ (c .if1 .taken))
 
-shared-slice-read-put-byte : tie.Need-shared-slice-read-put-byte Inv-loop μ-loop
-shared-slice-read-put-byte c = search needs
-
 put-byte-requires : tie.Need-put-byte-requires Inv-loop μ-loop
 put-byte-requires c κs = adding-past (c .before .before .before .before .loop .inv)
-
-enum-known-r : tie.Need-enum-known-r Inv-loop μ-loop
-enum-known-r c = search needs
 
 add-i : tie.Need-add-i Inv-loop μ-loop
 add-i c = omega (arith, c .before .before .before .before .before .before .before .before .before .loop-test .taken)
@@ -42,12 +36,6 @@ loop-less c = omega (arith, c .before .before .before .before .before .before .b
 
 loop-again : tie.Need-loop-again Inv-loop μ-loop
 loop-again c = adding-next (c .before .before .before .before .before .before .before .before .before .before .loop .inv) (_ ∷ []) _ (part-more _ _ _ (c .before .before .before .before .before .before .before .before .before .loop-test .taken) (c .before .before .before .before .before .before .before .before .if1 .left)) _ _ (c .before .before .before .before .before .put-byte .ensures) (c .before .r .given .1)
-
-enum-told : tie.Need-enum-told Inv-loop μ-loop
-enum-told c = search needs
-
-same-length-2 : tie.Need-same-length-2 Inv-loop μ-loop
-same-length-2 c = search needs
 
 returns-2 : tie.Need-returns-2 Inv-loop μ-loop
 returns-2 c = adding-short (c .before .before .before .before .before .before .before .before .before .loop .inv) (_ ∷ []) _ (part-more _ _ _ (c .before .before .before .before .before .before .before .before .loop-test .taken) (c .before .before .before .before .before .before .before .if1 .left)) _ _ (c .before .before .before .before .put-byte .ensures) (c .enum-told .given .1)
@@ -62,19 +50,5 @@ pub put-bytes-spec : {M : Type 1} → statement M
 put-bytes-spec =
     tie.close
     (tie.spec
-    Inv-loop
-    μ-loop
-    loop-holds
-    same-length
-    returns
-    shared-slice-read-put-byte
-    put-byte-requires
-    enum-known-r
-    add-i
-    loop-less
-    loop-again
-    enum-told
-    same-length-2
-    returns-2
-    same-length-3
-    returns-3)
+    Inv-loop μ-loop loop-holds same-length returns (λ c. search needs) put-byte-requires (λ c. search needs) add-i
+    loop-less loop-again (λ c. search needs) (λ c. search needs) returns-2 same-length-3 returns-3)

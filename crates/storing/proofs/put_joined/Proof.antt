@@ -24,20 +24,11 @@ loop-holds c = adding-first (c .before .before .pre .0) (c .before .before .pre 
 put-rest-requires : tie.Need-put-rest-requires Inv-loop μ-loop
 put-rest-requires c κs = adding-past (c .before .before .before .loop .inv)
 
-same-length : tie.Need-same-length Inv-loop μ-loop
-same-length c = search needs
-
 returns : tie.Need-returns Inv-loop μ-loop
 returns c = adding-last (c .before .before .before .before .before .before .loop .inv) (c .before .before .put-rest .last .0) (c .before .before .put-rest .result) (rw (part-out _ _ (c .before .before .before .before .before .before .before .before .before .args .end) (c .before .before .before .before .if1 .taken)) (c .before .before .put-rest .ensures))
 
-shared-slice-read-b : tie.Need-shared-slice-read-b Inv-loop μ-loop
-shared-slice-read-b c = search needs
-
 put-string-byte-requires : tie.Need-put-string-byte-requires Inv-loop μ-loop
 put-string-byte-requires c κs = adding-past (c .before .before .before .before .loop .inv)
-
-enum-known-r : tie.Need-enum-known-r Inv-loop μ-loop
-enum-known-r c = search needs
 
 add-i : tie.Need-add-i Inv-loop μ-loop
 add-i c = omega (arith, c .before .before .before .before .before .before .before .before .before .loop-test .taken)
@@ -48,20 +39,11 @@ loop-less c = omega (arith, c .before .before .before .before .before .before .b
 loop-again : tie.Need-loop-again Inv-loop μ-loop
 loop-again c = adding-next (c .before .before .before .before .before .before .before .before .before .before .loop .inv) _ _ (joined-more _ _ _ _ (c .before .before .before .before .before .before .before .before .before .loop-test .taken) (c .before .before .before .before .before .before .before .before .if1 .left)) _ _ (c .before .before .before .before .before .put-string-byte .ensures) (c .before .r .given .1)
 
-enum-told : tie.Need-enum-told Inv-loop μ-loop
-enum-told c = search needs
-
-same-length-2 : tie.Need-same-length-2 Inv-loop μ-loop
-same-length-2 c = search needs
-
 returns-2 : tie.Need-returns-2 Inv-loop μ-loop
 returns-2 c = adding-short (c .before .before .before .before .before .before .before .before .before .loop .inv) _ _ (joined-more _ _ _ _ (c .before .before .before .before .before .before .before .before .loop-test .taken) (c .before .before .before .before .before .before .before .if1 .left)) _ _ (c .before .before .before .before .put-string-byte .ensures) (c .enum-told .given .1)
 
 put-rest-requires-2 : tie.Need-put-rest-requires-2 Inv-loop μ-loop
 put-rest-requires-2 c κs = adding-past (c .before .before .loop .inv)
-
-same-length-3 : tie.Need-same-length-3 Inv-loop μ-loop
-same-length-3 c = search needs
 
 returns-3 : tie.Need-returns-3 Inv-loop μ-loop
 returns-3 c = adding-last (c .before .before .before .before .before .loop .inv) (c .before .before .put-rest2 .last .0) (c .before .before .put-rest2 .result) (rw (part-none _ _ (c .before .before .before .before .before .before .before .before .args .end) (c .before .before .before .before .loop-test .left)) (c .before .before .put-rest2 .ensures))
@@ -70,21 +52,6 @@ pub put-joined-spec : {M : Type 1} → statement M
 put-joined-spec =
     tie.close
     (tie.spec
-    Inv-loop
-    μ-loop
-    loop-holds
-    put-rest-requires
-    same-length
-    returns
-    shared-slice-read-b
-    put-string-byte-requires
-    enum-known-r
-    add-i
-    loop-less
-    loop-again
-    enum-told
-    same-length-2
-    returns-2
-    put-rest-requires-2
-    same-length-3
-    returns-3)
+    Inv-loop μ-loop loop-holds put-rest-requires (λ c. search needs) returns (λ c. search needs)
+    put-string-byte-requires (λ c. search needs) add-i loop-less loop-again (λ c. search needs) (λ c. search needs)
+    returns-2 put-rest-requires-2 (λ c. search needs) returns-3)

@@ -6,12 +6,6 @@ use Rattle.storing.proofs.Adding.{added-none}
 use Rattle.storing.proofs.put_rest.Statement.{statement}
 use Rattle.storing.proofs.put_rest.Tie as tie
 
-put-byte-requires : tie.Need-put-byte-requires
-put-byte-requires c κs = search needs
-
-same-length : tie.Need-same-length
-same-length c = search needs
-
 returns : tie.Need-returns
 unfolding joinedFrom
 returns c = simp (c .before .before .before .before .if1 .taken) (c .before .before .put-byte .ensures)
@@ -21,4 +15,5 @@ unfolding joinedFrom
 returns-2 c = simp (c .if1 .left) (added-none _ _ _ (c .before .before .pre .1))
 
 pub put-rest-spec : {M : Type 1} → statement M
-put-rest-spec = tie.close (tie.spec put-byte-requires same-length returns returns-2)
+put-rest-spec = tie.close (tie.spec
+    (λ c κs. search needs) (λ c. search needs) returns returns-2)

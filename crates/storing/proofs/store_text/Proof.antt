@@ -33,12 +33,6 @@ same-length c = adding-length (c .before .before .before .before .loop .inv)
 returns : tie.Need-returns Inv-loop μ-loop
 returns c = stored-at (c .before .before .before .before .before .before .before .pre) (adding-end (c .before .before .before .before .loop .inv) (pieces-out _ _ _ _ (c .before .before .if1 .taken))) (c .trim-end .ensures)
 
-in-definition-requires : tie.Need-in-definition-requires Inv-loop μ-loop
-in-definition-requires c κs = search needs
-
-token-at-requires : tie.Need-token-at-requires Inv-loop μ-loop
-token-at-requires c κs = search needs
-
 trim-end-requires-2 : tie.Need-trim-end-requires-2 Inv-loop μ-loop
 trim-end-requires-2 c κs = adding-past (c .before .before .before .before .before .before .before .loop .inv)
 
@@ -51,23 +45,11 @@ returns-2 c = stored-at (c .before .before .before .before .before .before .befo
 put-piece-requires : tie.Need-put-piece-requires Inv-loop μ-loop
 put-piece-requires c κs = adding-past (c .before .before .before .before .before .before .before .loop .inv)
 
-enum-known-r : tie.Need-enum-known-r Inv-loop μ-loop
-enum-known-r c = search needs
-
-marks-after-requires : tie.Need-marks-after-requires Inv-loop μ-loop
-marks-after-requires c κs = search needs
-
 loop-less : tie.Need-loop-less Inv-loop μ-loop
 loop-less c = omega (arith, c .before .before .before .before .before .before .before .before .before .before .before .before .before .loop-test .taken, token-past _ _ _ _ (c .before .before .before .before .before .before .before .before .before .before .token-at .ensures) (c .before .before .before .before .before .before .before .before .before .before .before .before .if1 .left))
 
 loop-again : tie.Need-loop-again Inv-loop μ-loop
 loop-again c = adding-next (c .before .before .before .before .before .before .before .before .before .before .before .before .before .before .loop .inv) _ _ (pieces-next _ _ _ _ _ _ (c .before .before .before .before .before .before .before .before .before .before .before .in-definition .ensures) (c .before .before .before .before .before .before .before .before .before .before .token-at .ensures) (c .before .before .before .before .before .before .before .before .before .before .before .before .if1 .left) (c .before .before .before .before .before .before .before .before .if2 .left) (c .before .before .before .before .before .before .before .before .before .before .before .before .before .loop-test .taken) _ (c .marks-after .ensures)) _ _ (c .before .before .before .before .before .before .put-piece .ensures) (c .before .before .r .given .1)
-
-enum-told : tie.Need-enum-told Inv-loop μ-loop
-enum-told c = search needs
-
-same-length-3 : tie.Need-same-length-3 Inv-loop μ-loop
-same-length-3 c = search needs
 
 returns-3 : tie.Need-returns-3 Inv-loop μ-loop
 returns-3 c = omega (arith, pieces-length (c .before .before .before .before .before .before .before .before .before .before .before .before .before .before .before .args .s .now) (c .before .before .before .before .before .before .before .before .before .before .before .before .before .before .before .args .end) inDefinition (c .before .before .before .before .before .before .before .before .before .before .before .before .before .before .before .args .at) false, adding-short (c .before .before .before .before .before .before .before .before .before .before .before .before .loop .inv) _ _ (pieces-next _ _ _ _ _ _ (c .before .before .before .before .before .before .before .before .before .in-definition .ensures) (c .before .before .before .before .before .before .before .before .token-at .ensures) (c .before .before .before .before .before .before .before .before .before .before .if1 .left) (c .before .before .before .before .before .before .if2 .left) (c .before .before .before .before .before .before .before .before .before .before .before .loop-test .taken) _ refl) _ _ (c .before .before .before .before .put-piece .ensures) (c .enum-told .given .1))
@@ -85,25 +67,7 @@ pub store-text-spec : {M : Type 1} → statement M
 store-text-spec =
     tie.close
     (tie.spec
-    Inv-loop
-    μ-loop
-    loop-holds
-    trim-end-requires
-    same-length
-    returns
-    in-definition-requires
-    token-at-requires
-    trim-end-requires-2
-    same-length-2
-    returns-2
-    put-piece-requires
-    enum-known-r
-    marks-after-requires
-    loop-less
-    loop-again
-    enum-told
-    same-length-3
-    returns-3
-    trim-end-requires-3
-    same-length-4
+    Inv-loop μ-loop loop-holds trim-end-requires same-length returns (λ c κs. search needs) (λ c κs. search needs)
+    trim-end-requires-2 same-length-2 returns-2 put-piece-requires (λ c. search needs) (λ c κs. search needs)
+    loop-less loop-again (λ c. search needs) (λ c. search needs) returns-3 trim-end-requires-3 same-length-4
     returns-4)

@@ -16,23 +16,8 @@ abbrev μ-loop : tie.MeasureT-loop
 loop-holds : tie.Need-loop-holds Inv-loop μ-loop
 loop-holds c = trimming-first _ _ _ (c .before .pre)
 
-sub-is-space : tie.Need-sub-is-space Inv-loop μ-loop
-sub-is-space c = search needs
-
-shared-slice-read-is-space : tie.Need-shared-slice-read-is-space Inv-loop μ-loop
-shared-slice-read-is-space c = search needs
-
-is-space-requires : tie.Need-is-space-requires Inv-loop μ-loop
-is-space-requires c κs = search needs
-
 returns : tie.Need-returns Inv-loop μ-loop
 returns c = trimming-solid (c .before .before .before .before .loop .inv) (c .before .before .before .loop-test .taken) (sym (c .before .is-space .ensures) ∙ not-true _ (c .if1 .taken))
-
-sub-k : tie.Need-sub-k Inv-loop μ-loop
-sub-k c = search needs
-
-loop-less : tie.Need-loop-less Inv-loop μ-loop
-loop-less c = search needs
 
 loop-again : tie.Need-loop-again Inv-loop μ-loop
 loop-again c = trimming-next (c .before .before .before .before .loop .inv) (c .before .before .before .loop-test .taken) (sym (c .before .is-space .ensures) ∙ not-false _ (c .if1 .left))
@@ -44,14 +29,5 @@ pub trim-end-spec : {M : Type 1} → statement M
 trim-end-spec =
     tie.close
     (tie.spec
-    Inv-loop
-    μ-loop
-    loop-holds
-    sub-is-space
-    shared-slice-read-is-space
-    is-space-requires
-    returns
-    sub-k
-    loop-less
-    loop-again
-    returns-2)
+    Inv-loop μ-loop loop-holds (λ c. search needs) (λ c. search needs) (λ c κs. search needs) returns
+    (λ c. search needs) (λ c. search needs) loop-again returns-2)

@@ -14,23 +14,11 @@ Inv-loop s at end b i₀ i = holds b (part s i end) ≡ holds b (part s at end)
 abbrev μ-loop : tie.MeasureT-loop
 μ-loop s at end b i₀ i = end - i
 
-loop-holds : tie.Need-loop-holds Inv-loop μ-loop
-loop-holds c = refl
-
 returns : tie.Need-returns Inv-loop μ-loop
 returns c = sym (holds-out _ _ _ _ (c .if1 .taken)) ∙ c .before .before .loop .inv
 
-shared-slice-read-if2 : tie.Need-shared-slice-read-if2 Inv-loop μ-loop
-shared-slice-read-if2 c = search needs
-
 returns-2 : tie.Need-returns-2 Inv-loop μ-loop
 returns-2 c = sym (holds-hit _ _ _ _ (c .before .before .before .loop-test .taken) (c .before .before .if1 .left) (c .if2 .taken)) ∙ c .before .before .before .before .loop .inv
-
-add-i : tie.Need-add-i Inv-loop μ-loop
-add-i c = search needs
-
-loop-less : tie.Need-loop-less Inv-loop μ-loop
-loop-less c = search needs
 
 loop-again : tie.Need-loop-again Inv-loop μ-loop
 loop-again c = sym (holds-miss _ _ _ _ (c .before .before .before .loop-test .taken) (c .before .before .if1 .left) (c .if2 .left)) ∙ c .before .before .before .before .loop .inv
@@ -42,13 +30,5 @@ pub holds-in-spec : {M : Type 1} → statement M
 holds-in-spec =
     tie.close
     (tie.spec
-    Inv-loop
-    μ-loop
-    loop-holds
-    returns
-    shared-slice-read-if2
-    returns-2
-    add-i
-    loop-less
-    loop-again
-    returns-3)
+    Inv-loop μ-loop (λ c. refl) returns (λ c. search needs) returns-2 (λ c. search needs) (λ c. search needs)
+    loop-again returns-3)

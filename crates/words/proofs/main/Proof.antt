@@ -7,11 +7,6 @@ use Rattle.words.proofs.main.Tie as tie
 slice-aggregate-read-and-run : tie.Need-slice-aggregate-read-and-run
 slice-aggregate-read-and-run c = filled 1048577
 
-read-and-run-requires : tie.Need-read-and-run-requires
-read-and-run-requires c κs = tt
-
-returns : tie.Need-returns
-returns c = tt
-
 pub main-spec : {M : Type 1} → statement M
-main-spec = tie.close (tie.spec slice-aggregate-read-and-run read-and-run-requires returns)
+main-spec = tie.close (tie.spec
+    slice-aggregate-read-and-run (λ c κs. tt) (λ c. tt))

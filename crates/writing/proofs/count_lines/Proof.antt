@@ -17,18 +17,6 @@ abbrev μ-loop : tie.MeasureT-loop
 loop-holds : tie.Need-loop-holds Inv-loop μ-loop
 loop-holds c = counted-none _ _
 
-add-n : tie.Need-add-n Inv-loop μ-loop
-add-n c = omega arith
-
-shared-slice-read-f : tie.Need-shared-slice-read-f Inv-loop μ-loop
-shared-slice-read-f c = omega arith
-
-add-i : tie.Need-add-i Inv-loop μ-loop
-add-i c = omega arith
-
-loop-less : tie.Need-loop-less Inv-loop μ-loop
-loop-less c = omega arith
-
 loop-again : tie.Need-loop-again Inv-loop μ-loop
 loop-again c = ⊎-elim (λ x. counted-line (c .before .before .before .loop .inv) (c .before .before .loop-test .taken) (x .0 .taken) (x .1)) (λ x. counted-other (c .before .before .before .loop .inv) (c .before .before .loop-test .taken) (x .0 .left) (x .1)) (c .before .if1 .came)
 
@@ -39,12 +27,5 @@ pub count-lines-spec : {M : Type 1} → statement M
 count-lines-spec =
     tie.close
     (tie.spec
-    Inv-loop
-    μ-loop
-    loop-holds
-    add-n
-    shared-slice-read-f
-    add-i
-    loop-less
-    loop-again
-    returns)
+    Inv-loop μ-loop loop-holds (λ c. omega arith) (λ c. omega arith) (λ c. omega arith) (λ c. omega arith)
+    loop-again returns)

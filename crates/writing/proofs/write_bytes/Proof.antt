@@ -48,15 +48,5 @@ pub write-bytes-spec : {M : Type 1} → statement M
 write-bytes-spec =
     tie.close
     (tie.spec
-    Inv-loop
-    μ-loop
-    loop-holds
-    shared-slice-read-b
-    write-byte-requires
-    place-after-requires
-    add-i
-    loop-less
-    loop-again
-    same-length
-    same-length-2
-    returns)
+    Inv-loop μ-loop loop-holds shared-slice-read-b write-byte-requires place-after-requires add-i loop-less
+    loop-again same-length same-length-2 returns)

@@ -15,14 +15,8 @@ returns c = no-letter (c .before .args .b) (c .if1 .taken)
 sub-letter : tie.Need-sub-letter
 sub-letter c = small-letter (c .before .args .b) (c .if1 .left) .0
 
-cast-letter : tie.Need-cast-letter
-cast-letter c = search needs
-
 array-read-t10 : tie.Need-array-read-t10
 array-read-t10 c = let l = small-letter (c .before .args .b) (c .if1 .left) in omega arith
-
-add-t13 : tie.Need-add-t13
-add-t13 c = search needs
 
 array-read-t16 : tie.Need-array-read-t16
 array-read-t16 c = let l = small-letter (c .before .args .b) (c .if1 .left) in omega arith
@@ -38,11 +32,5 @@ pub stretch-of-spec : {M : Type 1} → statement M
 stretch-of-spec =
     tie.close
     (tie.spec
-    returns
-    sub-letter
-    cast-letter
-    array-read-t10
-    add-t13
-    array-read-t16
-    array-read-t19
+    returns sub-letter (λ c. search needs) array-read-t10 (λ c. search needs) array-read-t16 array-read-t19
     returns-2)

@@ -10,53 +10,14 @@ use Rattle.running.proofs.Usages.{name-fits, front-is}
 use Rattle.running.proofs.putting.write_place_word.Statement.{statement}
 use Rattle.running.proofs.putting.write_place_word.Tie as tie
 
-name-at-requires : tie.Need-name-at-requires
-name-at-requires c κs = search needs
-
 quote-requires : tie.Need-quote-requires
 quote-requires c κs = name-fits _ _ _ _ (c .before .before .before .before .before .before .before .before .before .args .quoted .now) (c .before .name-at .ensures) (c .before .before .before .before .before .before .before .before .before .pre .entries) (c .before .before .before .before .before .before .before .before .before .pre .file-in) (c .before .before .before .before .before .before .before .before .before .pre .quoted-lent)
-
-part-of-requires : tie.Need-part-of-requires
-part-of-requires c κs = search needs
-
-write-word-requires : tie.Need-write-word-requires
-write-word-requires c κs = search needs
-
-same-length : tie.Need-same-length
-same-length c = search needs
-
-same-length-2 : tie.Need-same-length-2
-same-length-2 c = search needs
-
-same-length-3 : tie.Need-same-length-3
-same-length-3 c = search needs
 
 returns : tie.Need-returns
 returns c = λ x ms set limit bs rs fr cd f a o h. as-act (c .before .before .before .before .write-word .result) _ _ _ _ _ ms _ _ (file-written limit ms (c .before .before .before .before .before .before .before .before .before .before .before .before .before .before .before .before .before .before .before .before .before .args .z) f (c .before .before .before .before .before .before .before .before .before .before .before .before .before .before .before .before .before .before .before .before .before .args .d) _ _ (c .before .before .before .before .before .before .before .before .before .before .before .before .before .before .if1 .taken) (c .before .before .before .before .before .before .before .before .before .before .before .before .before .name-at .ensures) (front-is _ (c .before .before .before .before .before .before .before .before .before .before .before .quote .result) _ _ (c .before .before .before .before .before .before .before .before .before .before .before .quote .ensures .0) (c .before .before .before .before .before .before .before .part-of .ensures))) (c .before .before .before .before .write-word .ensures x ms _ _ set limit bs rs fr cd f a o h)
 
-write-digits-requires : tie.Need-write-digits-requires
-write-digits-requires c κs = search needs
-
-part-of-requires-2 : tie.Need-part-of-requires-2
-part-of-requires-2 c κs = search needs
-
-write-word-requires-2 : tie.Need-write-word-requires-2
-write-word-requires-2 c κs = search needs
-
-same-length-4 : tie.Need-same-length-4
-same-length-4 c = search needs
-
-same-length-5 : tie.Need-same-length-5
-same-length-5 c = search needs
-
-same-length-6 : tie.Need-same-length-6
-same-length-6 c = search needs
-
 returns-2 : tie.Need-returns-2
 returns-2 c = λ x ms set limit bs rs fr cd f a o h. as-act (c .before .before .before .before .write-word2 .result) _ _ _ _ _ ms _ _ (line-written limit ms (c .before .before .before .before .before .before .before .before .before .before .before .before .before .before .before .before .before .before .before .before .before .before .args .z) f (c .before .before .before .before .before .before .before .before .before .before .before .before .before .before .before .before .before .before .before .before .before .before .args .d) _ (c .before .before .before .before .before .before .before .before .before .before .before .before .before .before .before .if1 .left) (c .before .before .before .before .before .before .before .before .before .before .before .before .before .before .if2 .taken) (front-is _ (c .before .before .before .before .before .before .before .before .before .before .before .write-digits .result) _ _ (c .before .before .before .before .before .before .before .before .before .before .before .write-digits .ensures .0) (c .before .before .before .before .before .before .before .part-of2 .ensures))) (c .before .before .before .before .write-word2 .ensures x ms _ _ set limit bs rs fr cd f a o h)
-
-refuse-requires : tie.Need-refuse-requires
-refuse-requires c κs = search needs
 
 returns-3 : tie.Need-returns-3
 returns-3 c = λ x ms set limit bs rs fr cd f a o h. refuses _ _ _ _ ms (c .before .before .before .before .before .before .before .before .before .args .z) (c .refuse .result) 7 _ _ (c .refuse .ensures) (omega arith) (ap (perform _) (refused-at limit ms (c .before .before .before .before .before .before .before .before .before .args .z) f (c .before .before .before .before .before .before .before .before .before .args .d) (c .before .before .if1 .left) (c .before .if2 .left) a)) h
@@ -65,20 +26,7 @@ pub write-place-word-spec : {M : Type 1} → statement M
 write-place-word-spec =
     tie.close
     (tie.spec
-    name-at-requires
-    quote-requires
-    part-of-requires
-    write-word-requires
-    same-length
-    same-length-2
-    same-length-3
-    returns
-    write-digits-requires
-    part-of-requires-2
-    write-word-requires-2
-    same-length-4
-    same-length-5
-    same-length-6
-    returns-2
-    refuse-requires
-    returns-3)
+    (λ c κs. search needs) quote-requires (λ c κs. search needs) (λ c κs. search needs) (λ c. search needs)
+    (λ c. search needs) (λ c. search needs) returns (λ c κs. search needs) (λ c κs. search needs)
+    (λ c κs. search needs) (λ c. search needs) (λ c. search needs) (λ c. search needs) returns-2
+    (λ c κs. search needs) returns-3)

@@ -4,11 +4,9 @@ use borrow.Author.Needs.{needs}
 use Rattle.running.proofs.stage.behind.Statement.{statement}
 use Rattle.running.proofs.stage.behind.Tie as tie
 
-cursor-behind-requires : tie.Need-cursor-behind-requires
-cursor-behind-requires c κs = search needs
-
 returns : tie.Need-returns
 returns c = rw (c .cursor-behind .ensures)
 
 pub behind-spec : {M : Type 1} → statement M
-behind-spec = tie.close (tie.spec cursor-behind-requires returns)
+behind-spec = tie.close (tie.spec
+    (λ c κs. search needs) returns)

@@ -9,15 +9,6 @@ use Rattle.running.proofs.tokens.special.Tie as tie
 end-file-requires : tie.Need-end-file-requires
 end-file-requires c κs = (c .before .before .before .before .before .before .before .before .before .before .before .before .before .before .before .before .pre .1 .open-file, c .before .before .before .before .before .before .before .before .before .before .before .before .before .before .before .before .pre .0 .going .ok .few-files, c .before .before .before .before .before .before .before .before .before .before .before .before .before .before .before .before .pre .0 .going .ok .frames-lent, file-small (c .before .before .before .before .before .before .before .before .before .before .before .before .before .before .before .before .pre .0) (c .before .before .before .before .before .before .before .before .before .before .before .before .before .before .before .before .pre .1), line-low (c .before .before .before .before .before .before .before .before .before .before .before .before .before .before .before .before .pre .0) (c .before .before .before .before .before .before .before .before .before .before .before .before .before .before .before .before .pre .1), c .before .before .before .before .before .before .before .before .before .before .before .before .before .before .before .before .pre .0 .going .ok .copyable .in-text, c .before .before .before .before .before .before .before .before .before .before .before .before .before .before .before .before .pre .0 .going .ok .copyable .in-map)
 
-same-length : tie.Need-same-length
-same-length c = search needs
-
-same-length-2 : tie.Need-same-length-2
-same-length-2 c = search needs
-
-same-length-3 : tie.Need-same-length-3
-same-length-3 c = search needs
-
 returns : tie.Need-returns
 returns c = λ x ms cd f a o h. as-act (c .before .before .before .before .end-file .result) _ _ _ _ _ ms _ _ (special-end _ ms f a o (c .before .before .before .before .before .before .before .before .before .before .before .before .before .before .before .before .before .before .before .before .before .pre .2) (c .before .before .before .before .before .before .before .before .if1 .taken)) (c .before .before .before .before .end-file .ensures x ms _ _ _ _ _ _ cd f (a .open-file) o h)
 
@@ -72,12 +63,6 @@ returns-2 c = λ x ms cd f a o h. as-act (c .before .before .before .before .bef
 hide-requires : tie.Need-hide-requires
 hide-requires c κs = (c .before .before .before .before .before .before .before .before .before .before .before .before .before .before .before .before .before .before .pre .3 .name-lent, c .before .before .before .before .before .before .before .before .before .before .before .before .before .before .before .before .before .before .pre .3 .stack-lent, reads-at (c .before .before .before .before .before .before .before .before .before .before .before .before .before .before .before .before .before .before .pre .0) (c .before .before .before .before .before .before .before .before .before .before .before .before .before .before .before .before .before .before .pre .1))
 
-same-length-18 : tie.Need-same-length-18
-same-length-18 c = search needs
-
-same-length-19 : tie.Need-same-length-19
-same-length-19 c = search needs
-
 returns-3 : tie.Need-returns-3
 returns-3 c = λ x ms cd f a o h. as-act (c .before .before .before .before .hide .result) _ _ _ _ _ ms _ _ (special-hidden _ ms f a o (c .before .before .before .before .before .before .before .before .before .before .before .before .before .before .before .before .before .before .before .before .before .before .before .pre .2) (c .before .before .before .before .before .before .before .before .before .before .if1 .left) (c .before .before .before .before .before .before .before .before .if2 .left) (c .before .before .before .before .before .before .before .if3 .taken)) (c .before .before .before .before .hide .ensures x ms _ _ _ _ _ _ _ _ _ cd f a o h)
 
@@ -91,30 +76,7 @@ pub special-spec : {M : Type 1} → statement M
 special-spec =
     tie.close
     (tie.spec
-    end-file-requires
-    same-length
-    same-length-2
-    same-length-3
-    returns
-    take-requires
-    same-length-4
-    same-length-5
-    same-length-6
-    same-length-7
-    same-length-8
-    same-length-9
-    same-length-10
-    same-length-11
-    same-length-12
-    same-length-13
-    same-length-14
-    same-length-15
-    same-length-16
-    same-length-17
-    returns-2
-    hide-requires
-    same-length-18
-    same-length-19
-    returns-3
-    behind-requires
-    returns-4)
+    end-file-requires (λ c. search needs) (λ c. search needs) (λ c. search needs) returns take-requires
+    same-length-4 same-length-5 same-length-6 same-length-7 same-length-8 same-length-9 same-length-10
+    same-length-11 same-length-12 same-length-13 same-length-14 same-length-15 same-length-16 same-length-17
+    returns-2 hide-requires (λ c. search needs) (λ c. search needs) returns-3 behind-requires returns-4)

@@ -9,59 +9,11 @@ use Rattle.running.proofs.tokens.take.Tie as tie
 usage-requires : tie.Need-usage-requires
 usage-requires c κs = usage-lent ((c .before .before .before .before .before .before .before .before .before .before .before .before .before .before .before .before .before .before .before .before .before .before .before) .pre .0) ((c .before .before .before .before .before .before .before .before .before .before .before .before .before .before .before .before .before .before .before .before .before .before .before) .pre .1) ((c .before .before .before .before .before .before .before .before .before .before .before .before .before .before .before .before .before .before .before .before .before .before .before) .pre .2)
 
-same-length : tie.Need-same-length
-same-length c = search needs
-
-same-length-2 : tie.Need-same-length-2
-same-length-2 c = search needs
-
-same-length-3 : tie.Need-same-length-3
-same-length-3 c = search needs
-
-same-length-4 : tie.Need-same-length-4
-same-length-4 c = search needs
-
-same-length-5 : tie.Need-same-length-5
-same-length-5 c = search needs
-
-same-length-6 : tie.Need-same-length-6
-same-length-6 c = search needs
-
-same-length-7 : tie.Need-same-length-7
-same-length-7 c = search needs
-
-same-length-8 : tie.Need-same-length-8
-same-length-8 c = search needs
-
-same-length-9 : tie.Need-same-length-9
-same-length-9 c = search needs
-
-same-length-10 : tie.Need-same-length-10
-same-length-10 c = search needs
-
-same-length-11 : tie.Need-same-length-11
-same-length-11 c = search needs
-
 returns : tie.Need-returns
 returns c = λ x ms cd f a o h. as-act ((c .before .before .before .before .before .before .before .before .before .before .before .before .before .before .before .usage) .result) _ _ _ _ _ ms _ _ (taken-usage _ _ ((c .before .before .before .before .before .before .before .before .before .before .before .before .before .before .before .before .before .before .before .before .before .before .before .before .before .before .before .if1) .taken)) ((c .before .before .before .before .before .before .before .before .before .before .before .before .before .before .before .usage) .ensures x ms _ _ cd f a o h)
 
 define-requires : tie.Need-define-requires
 define-requires c κs = (define-ready ((c .before .before .before .before .before .before .before .before .before .before .before .before .before .before .before .before .before .before) .pre .0) ((c .before .before .before .before .before .before .before .before .before .before .before .before .before .before .before .before .before .before) .pre .1) ((c .before .before .before .before .before .before .before .before .before .before .before .before .before .before .before .before .before .before) .pre .2), reads-at ((c .before .before .before .before .before .before .before .before .before .before .before .before .before .before .before .before .before .before) .pre .0) ((c .before .before .before .before .before .before .before .before .before .before .before .before .before .before .before .before .before .before) .pre .1))
-
-same-length-12 : tie.Need-same-length-12
-same-length-12 c = search needs
-
-same-length-13 : tie.Need-same-length-13
-same-length-13 c = search needs
-
-same-length-14 : tie.Need-same-length-14
-same-length-14 c = search needs
-
-same-length-15 : tie.Need-same-length-15
-same-length-15 c = search needs
-
-same-length-16 : tie.Need-same-length-16
-same-length-16 c = search needs
 
 returns-2 : tie.Need-returns-2
 returns-2 c = λ x ms cd f a o h. as-act ((c .before .before .before .before .before .before .before .before .before .define) .result) _ _ _ _ _ ms _ _ (taken-define _ _ ((c .before .before .before .before .before .before .before .before .before .before .before .before .before .before .before .before .if1) .left) (body-here f a) (token-at-here f a) ((c .before .before .before .before .before .before .before .before .before .before .before .before .before .before .before .if2) .taken)) ((c .before .before .before .before .before .before .before .before .before .define) .ensures x ms _ _ _ _ _ _ _ cd f a o h)
@@ -69,23 +21,11 @@ returns-2 c = λ x ms cd f a o h. as-act ((c .before .before .before .before .be
 undef-requires : tie.Need-undef-requires
 undef-requires c κs = ((c .before .before .before .before .before .before .before .before .before .before .before .before .before .before .before .before) .pre .0 .going .bytes-small, (c .before .before .before .before .before .before .before .before .before .before .before .before .before .before .before .before) .pre .0 .going .stored, reads-at ((c .before .before .before .before .before .before .before .before .before .before .before .before .before .before .before .before) .pre .0) ((c .before .before .before .before .before .before .before .before .before .before .before .before .before .before .before .before) .pre .1))
 
-same-length-17 : tie.Need-same-length-17
-same-length-17 c = search needs
-
-same-length-18 : tie.Need-same-length-18
-same-length-18 c = search needs
-
 returns-3 : tie.Need-returns-3
 returns-3 c = λ x ms cd f a o h. as-act ((c .before .before .before .undef) .result) _ _ _ _ _ ms _ _ (taken-undef _ _ ((c .before .before .before .before .before .before .before .before .if1) .left) ((c .before .before .before .before .before .before .before .if2) .left) ((c .before .before .before .before .before .before .if3) .taken)) ((c .before .before .before .undef) .ensures x ms _ _ _ _ _ _ _ cd f a o h)
 
 undef-all-requires : tie.Need-undef-all-requires
 undef-all-requires c κs = ((c .before .before .before .before .before .before .before .before .before .before .before .before .before .before .before .before .before) .pre .0 .going .stored, reads-at ((c .before .before .before .before .before .before .before .before .before .before .before .before .before .before .before .before .before) .pre .0) ((c .before .before .before .before .before .before .before .before .before .before .before .before .before .before .before .before .before) .pre .1))
-
-same-length-19 : tie.Need-same-length-19
-same-length-19 c = search needs
-
-same-length-20 : tie.Need-same-length-20
-same-length-20 c = search needs
 
 returns-4 : tie.Need-returns-4
 returns-4 c = λ x ms cd f a o h. as-act ((c .before .before .before .undef-all) .result) _ _ _ _ _ ms _ _ (taken-all _ _ ((c .before .before .before .before .before .before .before .before .before .if1) .left) ((c .before .before .before .before .before .before .before .before .if2) .left) ((c .before .before .before .before .before .before .before .if3) .left) (token-at-here f a) ((c .before .before .before .before .before .before .if4) .taken)) ((c .before .before .before .undef-all) .ensures x ms _ _ _ _ _ _ _ cd f a o h)
@@ -93,38 +33,17 @@ returns-4 c = λ x ms cd f a o h. as-act ((c .before .before .before .undef-all)
 enter-requires : tie.Need-enter-requires
 enter-requires c κs = ((c .before .before .before .before .before .before .before .before .before .before .before .before .before .before .before .before .before) .pre .1 .open-file, (c .before .before .before .before .before .before .before .before .before .before .before .before .before .before .before .before .before) .pre .0 .going .ok .few-files, (c .before .before .before .before .before .before .before .before .before .before .before .before .before .before .before .before .before) .pre .0 .going .ok .frames-lent, reads-at ((c .before .before .before .before .before .before .before .before .before .before .before .before .before .before .before .before .before) .pre .0) ((c .before .before .before .before .before .before .before .before .before .before .before .before .before .before .before .before .before) .pre .1))
 
-same-length-21 : tie.Need-same-length-21
-same-length-21 c = search needs
-
 returns-5 : tie.Need-returns-5
 returns-5 c = λ x ms cd f a o h. as-act ((c .before .enter) .result) _ _ _ _ _ ms _ _ (taken-include _ _ ((c .before .before .before .before .before .before .before .if1) .left) ((c .before .before .before .before .before .before .if2) .left) ((c .before .before .before .before .before .if3) .left) ((c .before .before .before .before .if4) .left) (body-here f a) (token-at-here f a) ((c .before .before .before .if5) .taken)) ((c .before .enter) .ensures x ms _ _ _ _ _ _ cd f a o h)
 
 keep-on-requires : tie.Need-keep-on-requires
 keep-on-requires c κs = (file-small ((c .before .before .before .before .before .before .before .before .before .before .before .before .before .before .before .before .before .before .before) .pre .0) ((c .before .before .before .before .before .before .before .before .before .before .before .before .before .before .before .before .before .before .before) .pre .1), (c .before .before .before .before .before .before .before .before .before .before .before .before .before .before .before .before .before .before .before) .pre .0 .going .ok .copyable .in-text, (c .before .before .before .before .before .before .before .before .before .before .before .before .before .before .before .before .before .before .before) .pre .0 .going .ok .copyable .in-map, reads-at ((c .before .before .before .before .before .before .before .before .before .before .before .before .before .before .before .before .before .before .before) .pre .0) ((c .before .before .before .before .before .before .before .before .before .before .before .before .before .before .before .before .before .before .before) .pre .1))
 
-same-length-22 : tie.Need-same-length-22
-same-length-22 c = search needs
-
-same-length-23 : tie.Need-same-length-23
-same-length-23 c = search needs
-
 returns-6 : tie.Need-returns-6
 returns-6 c = λ x ms cd f a o h. as-act ((c .before .before .before .before .keep-on) .result) _ _ _ _ _ ms _ _ (taken-keep _ _ ((c .before .before .before .before .before .before .before .before .before .before .before .before .if1) .left) ((c .before .before .before .before .before .before .before .before .before .before .before .if2) .left) ((c .before .before .before .before .before .before .before .before .before .before .if3) .left) ((c .before .before .before .before .before .before .before .before .before .if4) .left) ((c .before .before .before .before .before .before .before .before .if5) .left) ((c .before .before .before .before .before .before .before .if6) .taken)) ((c .before .before .before .before .keep-on) .ensures x ms _ _ _ _ _ _ cd f a o h)
 
 write-place-word-requires : tie.Need-write-place-word-requires
 write-place-word-requires c κs = place-lent (c .before .before .before .before .before .before .before .before .before .before .before .before .before .before .before .before .before .before .before .before .before .pre .0) (c .before .before .before .before .before .before .before .before .before .before .before .before .before .before .before .before .before .before .before .before .before .pre .1) (c .before .before .before .before .before .before .before .before .before .before .before .before .before .before .before .before .before .before .before .before .before .pre .2)
-
-same-length-24 : tie.Need-same-length-24
-same-length-24 c = search needs
-
-same-length-25 : tie.Need-same-length-25
-same-length-25 c = search needs
-
-same-length-26 : tie.Need-same-length-26
-same-length-26 c = search needs
-
-same-length-27 : tie.Need-same-length-27
-same-length-27 c = search needs
 
 returns-7 : tie.Need-returns-7
 returns-7 c = λ x ms cd f a o h. as-act (c .before .before .before .before .before .before .before .before .write-place-word .result) _ _ _ _ _ ms _ _ (taken-place _ _ (c .before .before .before .before .before .before .before .before .before .before .before .before .before .before .before .before .before .before .if1 .left) (c .before .before .before .before .before .before .before .before .before .before .before .before .before .before .before .before .before .if2 .left) (c .before .before .before .before .before .before .before .before .before .before .before .before .before .before .before .before .if3 .left) (c .before .before .before .before .before .before .before .before .before .before .before .before .before .before .before .if4 .left) (c .before .before .before .before .before .before .before .before .before .before .before .before .before .before .if5 .left) (c .before .before .before .before .before .before .before .before .before .before .before .before .before .if6 .left)) (c .before .before .before .before .before .before .before .before .write-place-word .ensures x ms _ _ _ _ _ cd f a o h)
@@ -133,44 +52,11 @@ pub take-spec : {M : Type 1} → statement M
 take-spec =
     tie.close
     (tie.spec
-    usage-requires
-    same-length
-    same-length-2
-    same-length-3
-    same-length-4
-    same-length-5
-    same-length-6
-    same-length-7
-    same-length-8
-    same-length-9
-    same-length-10
-    same-length-11
-    returns
-    define-requires
-    same-length-12
-    same-length-13
-    same-length-14
-    same-length-15
-    same-length-16
-    returns-2
-    undef-requires
-    same-length-17
-    same-length-18
-    returns-3
-    undef-all-requires
-    same-length-19
-    same-length-20
-    returns-4
-    enter-requires
-    same-length-21
-    returns-5
-    keep-on-requires
-    same-length-22
-    same-length-23
-    returns-6
-    write-place-word-requires
-    same-length-24
-    same-length-25
-    same-length-26
-    same-length-27
+    usage-requires (λ c. search needs) (λ c. search needs) (λ c. search needs) (λ c. search needs)
+    (λ c. search needs) (λ c. search needs) (λ c. search needs) (λ c. search needs) (λ c. search needs)
+    (λ c. search needs) (λ c. search needs) returns define-requires (λ c. search needs) (λ c. search needs)
+    (λ c. search needs) (λ c. search needs) (λ c. search needs) returns-2 undef-requires (λ c. search needs)
+    (λ c. search needs) returns-3 undef-all-requires (λ c. search needs) (λ c. search needs) returns-4
+    enter-requires (λ c. search needs) returns-5 keep-on-requires (λ c. search needs) (λ c. search needs) returns-6
+    write-place-word-requires (λ c. search needs) (λ c. search needs) (λ c. search needs) (λ c. search needs)
     returns-7)

@@ -13,9 +13,9 @@ use Rattle.lex.specs.Scans.{spanFrom, spanEnd}
 use Rattle.lex.specs.Tokens.{Escaped, Byte, plain, named, escapedOr, backslashToken}
 use Rattle.lex.specs.declared.Scan.{Scan}
 use Rattle.lex.specs.declared.Token.{Token}
-use Rattle.storing.specs.Stored.{trimRight}
 use Rattle.brackets.specs.Steps.{stepOf}
-use Rattle.afresh.specs.Judging.{isUnfit, isAccented}
+use Rattle.storing.specs.Stored.{trimRight}
+use Rattle.afresh.specs.Unfit.{isAccented, isUnfit}
 use Rattle.afresh.specs.States.{Start, Solid, State, sign, fresh, outside}
 use Rattle.afresh.proofs.Sorts.{or-true}
 use Rattle.afresh.proofs.Going.{Hold, quoted, under, isText, marksOf, bare, start, verdict, goes, passed, clear}

@@ -18,7 +18,7 @@ use Rattle.lex.proofs.Tests.{and-left, and-right, true-false}
 use Rattle.lex.proofs.Progress.{span-inside}
 use Rattle.names.specs.Names.{macroDirectives, stateDirectives, otherDirectives, numberIn, otherOf, stateOf, directiveOf, barsText}
 use Rattle.storing.specs.Stored.{trimRight}
-use Rattle.afresh.specs.Judging.{isOpen}
+use Rattle.afresh.specs.Unfit.{isOpen}
 use Rattle.afresh.specs.States.{Solid, Slanted, Twice, inSolid, inSlanted, inTwice, inMarked, inShort, outside, reading, leaves, ended}
 use Rattle.afresh.proofs.Sorts.{and-false}
 use Rattle.afresh.proofs.Going.{Hold, quoted, standing, bare, start, verdict, goes, passed, spoilt-next, alike}
@@ -75,10 +75,10 @@ twice-from y ys e =
     (rw (eqb-true y 96 e) (passed (quoted false) Solid true [] refl 96 refl))
 
 -- the bytes of an escaped quote mark past its grave accent and its `\`
-abbrev isMark : List ℕ → Bool
-isMark ys = eqb (getD ys 0 0) 96 && eqb (getD ys 1 0) 34
+abbrev pub isQuoting : List ℕ → Bool
+isQuoting ys = eqb (getD ys 0 0) 96 && eqb (getD ys 1 0) 34
 
-slanted-solid : (ys : List ℕ) → isMark ys ≡ false → verdict (bare Slanted (quoted false)) ys ≡ verdict (standing Solid (quoted false) true []) ys
+slanted-solid : (ys : List ℕ) → isQuoting ys ≡ false → verdict (bare Slanted (quoted false)) ys ≡ verdict (standing Solid (quoted false) true []) ys
 unfolding reading ended leaves outside inShort inMarked inSlanted
 slanted-solid [] e = refl
 slanted-solid (y ∷ ys) e = go (eqb y 96) refl e
@@ -88,7 +88,7 @@ slanted-solid (y ∷ ys) e = go (eqb y 96) refl e
     go true p e = twice-next false y ys p ∙ (twice-solid ys e ∙ sym (twice-from y ys p))
     go false p e = alike (quoted false) Slanted Solid false true [] [] refl refl y ys (rw p)
 
-slanted-marked : (ys : List ℕ) → isMark ys ≡ false → verdict (bare Slanted (quoted true)) ys ≡ true
+slanted-marked : (ys : List ℕ) → isQuoting ys ≡ false → verdict (bare Slanted (quoted true)) ys ≡ true
 unfolding reading ended outside inShort inMarked inSlanted
 slanted-marked [] e = refl
 slanted-marked (y ∷ ys) e = go (eqb y 96) refl e
@@ -97,7 +97,7 @@ slanted-marked (y ∷ ys) e = go (eqb y 96) refl e
     go true p e = twice-next true y ys p ∙ twice-marked ys e
     go false p e = spoilt-next (quoted true) Slanted false [] refl y ys (rw p)
 
-slanted-mark : (b : Bool) (ys : List ℕ) → isMark ys ≡ true → verdict (bare Slanted (quoted b)) ys ≡ verdict (start (quoted b)) (drop 2 ys)
+slanted-mark : (b : Bool) (ys : List ℕ) → isQuoting ys ≡ true → verdict (bare Slanted (quoted b)) ys ≡ verdict (start (quoted b)) (drop 2 ys)
 unfolding outside inShort inMarked inTwice
 slanted-mark b [] e = cc
 slanted-mark b (y ∷ []) e = true-false (eqb y 96 && false) e (and-false (eqb y 96))
@@ -113,7 +113,7 @@ module _ (w : List ℕ) (trimmed : trimRight w ≡ w) (i : ℕ) (ys : List ℕ) 
   abbrev r : Scan
   r = spanFrom true true true (i + 2) ys
 
-  mark-at : (eqb (getD w (i + 2) 0) 96 && eqb (getD w (i + 3) 0) 34) ≡ isMark ys
+  mark-at : (eqb (getD w (i + 2) 0) 96 && eqb (getD w (i + 3) 0) 34) ≡ isQuoting ys
   mark-at =
       let q : i + 3 ≡ i + 2 + 1 = omega arith in
       let p : getD w (i + 3) 0 ≡ getD ys 1 0 =
@@ -145,9 +145,9 @@ module _ (w : List ℕ) (trimmed : trimRight w ≡ w) (i : ℕ) (ys : List ℕ) 
 
   pub slanted-meets : (b : Bool) → verdict (bare Slanted (quoted b)) ys ≡ told w (quoted b) (escapedGrave (modeOf (quoted b)) w i)
   unfolding escapedGrave spanEnd
-  slanted-meets b = go (isMark ys) b refl
+  slanted-meets b = go (isQuoting ys) b refl
     where
-      go : (a b : Bool) → isMark ys ≡ a → verdict (bare Slanted (quoted b)) ys ≡ told w (quoted b) (escapedGrave (modeOf (quoted b)) w i)
+      go : (a b : Bool) → isQuoting ys ≡ a → verdict (bare Slanted (quoted b)) ys ≡ told w (quoted b) (escapedGrave (modeOf (quoted b)) w i)
       go true b e =
           let t : escapedGrave (modeOf (quoted b)) w i ≡ plain EscapedQuote i (i + 4) 0 = rw (mark-at, e) in
           let q : i + 4 ≡ i + 2 + 2 = omega arith in

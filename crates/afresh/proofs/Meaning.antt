@@ -18,9 +18,10 @@ use Rattle.lex.proofs.Listing.{tokens-out, file-tokens}
 use Rattle.brackets.specs.Steps.{Step, on, done, torn}
 use Rattle.storing.specs.Stored.{trimRight}
 use Rattle.storing.proofs.Reading.{text-next}
-use Rattle.afresh.specs.Judging.{isOpen, isUnfit, barredGrave, isAccented, heldBy, unless, badIn, badText, badHeld, badDefault}
+use Rattle.afresh.specs.Judging.{barredGrave}
+use Rattle.afresh.specs.Unfit.{isOpen, isAccented, heldBy, unless, isUnfit, unfitIn, unfitText, unfitHeld, unfitDefault}
 use Rattle.afresh.specs.States.{begun, reading, leaves, ended}
-use Rattle.afresh.specs.Feeding.{isBadAs}
+use Rattle.afresh.specs.Unfit.{isUnfitAs}
 use Rattle.afresh.proofs.Sorts.{or-false}
 use Rattle.afresh.proofs.Going.{Hold, quoted, under, start, verdict}
 use Rattle.afresh.proofs.Placing.{byte-at, goes-on}
@@ -55,16 +56,16 @@ module _ (w : List ℕ) (trimmed : trimRight w ≡ w) where
 
   -- the tokens from i on, judged
   abbrev judged : Hold → ℕ → Bool
-  judged (quoted b) i = badIn w b (tokens (between inText b) w i)
-  judged (under ks) i = badHeld w ks (tokens inFile w i)
+  judged (quoted b) i = unfitIn w b (tokens (between inText b) w i)
+  judged (under ks) i = unfitHeld w ks (tokens inFile w i)
 
   judged-out : (h : Hold) (i : ℕ) → length w ≤ i → verdict (start h) (drop i w) ≡ judged h i
-  unfolding reading ended leaves badIn badHeld
+  unfolding reading ended leaves unfitIn unfitHeld
   judged-out (quoted b) i l = rw (drop-of-length-le w l, tokens-out (between inText b) w i l) (or-false b)
   judged-out (under ks) i l = rw (drop-of-length-le w l, tokens-out inFile w i l) (or-false (isOpen ks))
 
   judged-next : (h : Hold) (i : ℕ) → i < length w → judged h i ≡ after w h (tokenAt (modeOf h) w i) (λ j. judged j (tokenAt (modeOf h) w i .end))
-  unfolding badIn badHeld
+  unfolding unfitIn unfitHeld
   judged-next (quoted b) i l = rw (text-next b (between inText b) w i (tokenAt (between inText b) w i) refl refl l)
   judged-next (under ks) i l = rw (file-tokens w i l)
 
@@ -95,7 +96,7 @@ module _ (w : List ℕ) (trimmed : trimRight w ≡ w) where
           ∙ (after-alike h (tokenAt (modeOf h) w i) (λ j. verdict (start j) (drop k w)) (λ j. judged j k) (λ j. f j k (omega arith))
           ∙ sym (judged-next h i p)))
 
-pub meaning : (text : Bool) (w : List ℕ) → trimRight w ≡ w → ended (reading (begun text) w) ≡ isBadAs text w
-unfolding badText badDefault
+pub meaning : (text : Bool) (w : List ℕ) → trimRight w ≡ w → ended (reading (begun text) w) ≡ isUnfitAs text w
+unfolding unfitText unfitDefault
 meaning true w e = whole w e (length w) (quoted false) 0 (omega arith)
 meaning false w e = whole w e (length w) (under []) 0 (omega arith)

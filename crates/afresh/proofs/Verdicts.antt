@@ -11,7 +11,7 @@ use borrow.Author.Tests.{lt-ltb, not-true, not-false}
 use Rattle.text.specs.Bytes.{part}
 use Rattle.names.specs.Names.{directiveOf}
 use Rattle.brackets.specs.Stacks.{stackOf}
-use Rattle.afresh.specs.Judging.{isOpen}
+use Rattle.afresh.specs.Unfit.{isOpen}
 use Rattle.afresh.specs.States.{State, spoilt, isString, leaves}
 use Rattle.afresh.specs.Feeding.{stateOf}
 use Rattle.afresh.specs.declared.Reading.{Reading}

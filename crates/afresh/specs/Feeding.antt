@@ -1,12 +1,11 @@
 -- A reading as a number for its state, with the name and the closing brackets due in lent buffers.
 -- Assumes nothing.
 use Prim.Native.Nat.{ℕ, _+_, _*_, _≤_}
-use mathlib.Core.Bool.{Bool, true, false, cond}
+use mathlib.Core.Bool.{Bool, true, false}
 use mathlib.Core.Path.{_≡_}
 use mathlib.Core.List.{List}
 use lib.ListN.{length, take}
 use Rattle.brackets.specs.Stacks.{stackOf, Full}
-use Rattle.afresh.specs.Judging.{badText, badDefault}
 use Rattle.afresh.specs.States.{State, state}
 use Rattle.afresh.specs.declared.Reading.{Reading}
 use Rattle.afresh.specs.declared.Fed.{Fed}
@@ -30,14 +29,6 @@ FedBy (fed.On r′) r n q stack name′ stack′ =
     (stateOf r′ name′ stack′ ≡ q) × Sound r′ name′ stack′ × (r′ .depth ≤ r .depth + n)
 FedBy fed.Short r n q stack name′ stack′ = Full stack (r .depth + n)
 
-abbrev pub isBadAs : Bool → List ℕ → Bool
-isBadAs text w = cond text (badText w) (badDefault w)
-
 abbrev pub verdictOf : Bool → Verdict
 verdictOf true = verdict.Bad
 verdictOf false = verdict.Good
-
--- the right verdict; or the brackets have no room, of which there are no more than the n bytes read
-pub data JudgedBy (bad : Bool) (stack : List ℕ) (n : ℕ) (r : Verdict) : Type 0 where
-  full : r ≡ verdictOf bad → JudgedBy bad stack n r
-  over : r ≡ verdict.Short → Full stack n → JudgedBy bad stack n r

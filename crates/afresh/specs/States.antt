@@ -8,7 +8,7 @@ use lib.ListN.{length, take}
 use Rattle.lex.specs.Classes.{isWhite, isSpace, isDigit, isStart, isRun, isSign, isBase, isLegal}
 use Rattle.names.specs.Names.{barsText}
 use Rattle.brackets.specs.Steps.{Step, on, done, torn, stepOf}
-use Rattle.afresh.specs.Judging.{isOpen}
+use Rattle.afresh.specs.Unfit.{isOpen}
 
 -- where a reading stands: between two tokens
 abbrev pub Start : ℕ

@@ -14,7 +14,7 @@ use Rattle.brackets.specs.Stacks.{stackOf}
 use Rattle.pending.specs.declared.Item.{Item}
 use Rattle.pending.specs.declared.Seen.{Seen}
 use Rattle.pending.specs.declared.Seen.the-variants as seen
-use Rattle.pending.specs.Pending.{Pending, View, blanks, calls, names, opens, closes, commas, bars, plain, view}
+use Rattle.pending.specs.Pending.{Pending, View, view}
 use Rattle.pending.specs.Sources.{itemOf, ItemIs, SeenBy, Spans}
 use Rattle.pending.specs.Sources.Spans.{none}
 use Rattle.pending.proofs.Spanning.{spans-snoc}
@@ -23,6 +23,7 @@ use Rattle.arguments.specs.Moving.{MovedBy}
 use Rattle.arguments.specs.Ranges.{Ranged, placedFrom, placedTo, Unplaced, Lists}
 use Rattle.arguments.specs.declared.Move as moved
 use Rattle.arguments.specs.declared.Move.the-variants as move
+use Rattle.arguments.proofs.Moves.{by-move}
 
 -- ---- the list as read so far, and the rest
 
@@ -60,23 +61,18 @@ keep-part due e = let z : _≡_ {A = ℕ} 0 1 = cc in absurd (omega arith)
 fail-part : {A : Type 0} (n i : ℕ) → fail n i ≡ part → A
 fail-part n i e = let z : _≡_ {A = ℕ} 0 1 = cc in absurd (omega arith)
 
-inner-part : {A : Type 0} (v : View) (c : ℕ) (due : List ℕ) → moveOf v (c ∷ due) ≡ part → A
-inner-part blanks c due e = keep-part (c ∷ due) e
-inner-part (calls w) c due e = keep-part (c ∷ due) e
-inner-part (names w) c due e = keep-part (c ∷ due) e
-inner-part (opens d) c due e = keep-part (d ∷ c ∷ due) e
-inner-part {A} (closes b) c due e = go (eqb b c) e
+inner-part : {A : Type 0} (c : ℕ) (due : List ℕ) (v : View) → moveOf v (c ∷ due) ≡ part → A
+inner-part {A} c due =
+    by-move (λ (m : List ℕ → Move). m (c ∷ due) ≡ part → A) (keep-part (c ∷ due)) (λ d. keep-part (d ∷ c ∷ due)) (λ b. go (eqb b c))
+    (keep-part (c ∷ due)) fail-part
   where
     go : (t : Bool) → cond t (keep due) (fail 14 0) ≡ part → A
     go true q = keep-part due q
     go false q = fail-part 14 0 q
-inner-part commas c due e = keep-part (c ∷ due) e
-inner-part (bars n i) c due e = fail-part n i e
-inner-part plain c due e = keep-part (c ∷ due) e
 
-part-due : (v : View) (due : List ℕ) → moveOf v due ≡ part → due ≡ []
+pub part-due : (v : View) (due : List ℕ) → moveOf v due ≡ part → due ≡ []
 part-due v [] e = refl
-part-due v (c ∷ due) e = inner-part v c due e
+part-due v (c ∷ due) e = inner-part c due v e
 
 -- ---- the ranges as noted
 

@@ -17,13 +17,38 @@ use Rattle.brackets.specs.declared.Stepped.{Stepped}
 use Rattle.brackets.specs.declared.Stepped.the-variants as stepped
 use Rattle.brackets.proofs.Stacking.{stepped-on, stepped-done, stepped-torn, stepped-short}
 use Rattle.pending.specs.declared.Item.{Item}
-use Rattle.pending.specs.Pending.{View, blanks, calls, names, bars, plain, byteView, isBlank, kindView, view}
+use Rattle.pending.specs.Pending.{View, blanks, calls, names, opens, closes, commas, bars, plain, isBarred, byteView, isBlank, kindView, view}
 use Rattle.pending.specs.References.{rawOf, pendingBy}
 use Rattle.pending.specs.Sources.{itemOf}
 use Rattle.pending.proofs.Viewing.{view-clear, view-shut, first-raw, kind-view-first}
-use Rattle.arguments.specs.Arguments.{Move, keep, part, close, fail, moveOf}
+use Rattle.arguments.specs.Arguments.{Move, keep, part, close, fail, closing, comma, moveOf}
 use Rattle.arguments.specs.Moving.{MovedBy}
 use Rattle.arguments.specs.declared.Move as moved
+
+-- ---- every token
+
+-- what holds of each way to move holds of a token's
+pub by-move : (P : (List ℕ → Move) → Type 0) → P (λ due. keep due) → ((c : ℕ) → P (λ due. keep (c ∷ due))) → ((b : ℕ) → P (λ due. closing b due))
+    → P (λ due. comma due) → ((n i : ℕ) → P (λ due. fail n i)) → (v : View) → P (λ due. moveOf v due)
+by-move P k o c m f blanks = k
+by-move P k o c m f (calls w) = k
+by-move P k o c m f (names w) = k
+by-move P k o c m f (opens b) = o b
+by-move P k o c m f (closes b) = c b
+by-move P k o c m f commas = m
+by-move P k o c m f (bars n i) = f n i
+by-move P k o c m f plain = k
+
+-- a token that stays in a list is not refused there
+pub stays-free : (v : View) (due : List ℕ) → ((n i : ℕ) → moveOf v due ≡ fail n i → ⊥) → isBarred v ≡ false
+stays-free blanks due h = refl
+stays-free (calls w) due h = refl
+stays-free (names w) due h = refl
+stays-free (opens c) due h = refl
+stays-free (closes b) due h = refl
+stays-free commas due h = refl
+stays-free (bars n i) due h = absurd (h n i refl)
+stays-free plain due h = refl
 
 -- ---- a byte, a token of its own
 

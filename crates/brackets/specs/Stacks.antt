@@ -35,6 +35,11 @@ stackOf w (suc n) = levelOf w n ∷ stackOf w n
 abbrev pub Full : List ℕ → ℕ → Type 0
 Full w n = (4 * length w ≤ n) ⊎ (18446744073709551615 ≤ n)
 
+-- an answer r is the right one; or `short`, and then the lent bytes have no room for n brackets
+pub data Settled {A : Type 0} (w : List ℕ) (n : ℕ) (short right r : A) : Type 0 where
+  full : r ≡ right → Settled w n short right r
+  over : r ≡ short → Full w n → Settled w n short right r
+
 -- the step that was taken from depth n, with the buffer then; or there is no room
 abbrev pub SteppedBy : Stepped → Step → List ℕ → List ℕ → ℕ → Type 0
 SteppedBy (stepped.On d) p w w′ n = (p ≡ on (stackOf w′ d)) × (d ≤ n + 1) × (d ≤ 4 * length w)

@@ -1,24 +1,14 @@
--- The name behind `undef`; and the turn at a conditional word, by its condition and the change of open conditionals.
+-- The turn at a conditional word, by its condition and the change of open conditionals.
 -- Assumes nothing.
 use Prim.Native.Nat.{ℕ}
-use mathlib.Core.Bool.{Bool, true, false, cond, not, _||_}
+use mathlib.Core.Bool.{Bool, true, false, not}
 use mathlib.Core.Option.{Option}
 use mathlib.Core.List.{List}
 use mathlib.Core.Path.{_≡_, refl, _∙_}
-use native.Mathlib.Omega.{arith}
 use lib.Dec.{eqb}
 use borrow.Author.Tests.{eq-eqb, ne-eqb}
 use Rattle.lex.specs.declared.Token.{Token}
-use Rattle.lex.specs.Tokens.{Name, Escaped, is}
-use Rattle.names.specs.Names.{Undef, Ifdef, Elsif, Else, Endif}
-use Rattle.directive.specs.Forms.{formAt, nameForm, nameBy}
-use Rattle.directive.specs.Words.{wordAt}
-use Rattle.directive.specs.declared.Word.{Word as Read}
-use Rattle.directive.specs.declared.Word.the-variants as word
-use Rattle.directive.specs.declared.Value.{Value}
-use Rattle.directive.specs.declared.Value.the-variants.{Nothing, MacroName, Times, NetType, Cell, Drive, Version, StartingSet, Reset}
-use Rattle.directive.specs.declared.Form.{Form}
-use Rattle.directive.specs.declared.Form.the-variants.{Formed, Unformed, Barred}
+use Rattle.names.specs.Names.{Ifdef, Elsif, Else, Endif}
 use Rattle.conditions.specs.Grammar.{conditionAt}
 use Rattle.conditions.specs.Reading.{Reads}
 use Rattle.conditions.specs.declared.Condition.{Condition}
@@ -30,63 +20,9 @@ use Rattle.blocks.specs.declared.Changed.{Changed}
 use Rattle.blocks.specs.declared.Changed.the-variants as changed
 use Rattle.turns.specs.States.{Here}
 use Rattle.turns.specs.Acts.{onCondition, onBlocks, conditionAct, conditionalAct}
-use Rattle.choosing.specs.declared.Named.the-variants as named
 use Rattle.choosing.specs.declared.Chosen.{Chosen}
 use Rattle.choosing.specs.declared.Chosen.the-variants as chosen
-use Rattle.choosing.specs.Choosing.{NamedBy, choiceBy, Word, ChosenBy}
-
--- The name
-
-abbrev pub isName : Value → Bool
-isName Nothing = false
-isName (MacroName a e) = true
-isName (Times u p) = false
-isName (NetType n) = false
-isName (Cell n) = false
-isName (Drive n) = false
-isName (Version n) = false
-isName StartingSet = false
-isName Reset = false
-
--- no other value than a name
-abbrev saysName : Form → Bool
-saysName (Formed v e) = isName v
-saysName Unformed = true
-saysName (Barred n p) = true
-
-said : (w : Read) → saysName (nameBy w) ≡ true
-said (word.Found t) = go (is Name t || is Escaped t)
-  where
-    go : (b : Bool) → saysName (cond b (Formed (MacroName (t .from) (t .end)) (t .end)) Unformed) ≡ true
-    go true = refl
-    go false = refl
-said word.Missing = refl
-said (word.Barred n p) = refl
-
--- `undef` says nothing else
-form-said : (s : List ℕ) (i : ℕ) → saysName (formAt Undef s i) ≡ true
-unfolding formAt nameForm
-form-said s i = said (wordAt s i)
-
--- by the form that the code read
-pub named-name : (s : List ℕ) (i at : ℕ) (f : Form) (v : Value) (a b e : ℕ) → f ≡ formAt Undef s i → f ≡ Formed v e → v ≡ MacroName a b
-    → NamedBy (named.Name a b e) (formAt Undef s i) s at
-named-name s i at f v a b e p q r = rw (← p, q, r) (refl, refl)
-
-pub named-other : (s : List ℕ) (i at : ℕ) (f : Form) (v : Value) (e : ℕ) → f ≡ formAt Undef s i → f ≡ Formed v e → isName v ≡ false
-    → NamedBy (named.Refused 7 at) (formAt Undef s i) s at
-named-other s i at f v e p q r =
-    let x : isName v ≡ true = rw (← p, q) at (form-said s i) in
-    let z : _≡_ {A = ℕ} 0 1 = cc in
-    absurd (omega arith)
-
-pub named-none : (s : List ℕ) (i at : ℕ) (f : Form) → f ≡ formAt Undef s i → f ≡ Unformed → NamedBy (named.Refused 7 at) (formAt Undef s i) s at
-named-none s i at f p q = rw (← p, q) (refl, refl)
-
-pub named-barred : (s : List ℕ) (i at : ℕ) (f : Form) (n p : ℕ) → f ≡ formAt Undef s i → f ≡ Barred n p → NamedBy (named.Refused n p) (formAt Undef s i) s at
-named-barred s i at f n p e q = rw (← e, q) (refl, refl)
-
--- The turn
+use Rattle.choosing.specs.Choosing.{choiceBy, Word, ChosenBy}
 
 -- the turn by a change of the open conditionals at a word that stands here
 changes : (h : Here) (w w′ : List (List ℕ)) (r : Changed) (next : Option (List Conditional)) (e : ℕ) (u : Chosen)

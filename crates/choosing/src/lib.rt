@@ -2,14 +2,12 @@
 ghost use mathlib.Core.Path.{_≡_};
 ghost use mathlib.Core.Bool.{false};
 ghost use lib.Dec.{eqb};
-ghost use Prim.Native.Nat.{ℕ};
-ghost use Rattle.names.specs.Names.{Undef, Else, Endif};
-ghost use Rattle.directive.specs.Forms.{formAt};
+ghost use Rattle.names.specs.Names.{Else, Endif};
 ghost use Rattle.store.specs.Buffers.{Stored};
 ghost use Rattle.blocks.specs.Stacks.{BlocksIn};
 ghost use Rattle.turns.specs.States.{Here};
 ghost use Rattle.turns.specs.Acts.{conditionalAct};
-ghost use Rattle.choosing.specs.Choosing.{NamedBy, choiceBy, Word, ChosenBy};
+ghost use Rattle.choosing.specs.Choosing.{choiceBy, Word, ChosenBy};
 use blocks::Blocks;
 use blocks::Changed;
 use blocks::close_block;
@@ -17,48 +15,16 @@ use blocks::next_block;
 use blocks::open_block;
 use conditions::Condition;
 use conditions::condition_at;
-use directive::Form;
-use directive::Value;
-use directive::form_at;
 use lex::Token;
 use names::ELSE;
 use names::ELSIF;
 use names::ENDIF;
 use names::IFDEF;
-use names::UNDEF;
-
-// A macro's name in a directive, from and end, and the directive's end; or refused, with the place.
-pub enum Named {
-    Name(usize, usize, usize),
-    Refused(usize, usize),
-}
 
 // The blocks open behind a word, and where it ends; or refused, with the place.
 pub enum Chosen {
     To(Blocks, usize),
     Refused(usize, usize),
-}
-
-// The name behind the word `t` of an `undef`.
-pub fn name_after(s: &[u8], t: Token) -> Named
-    ensures { λ r. ⌜ NamedBy r (formAt Undef (now (s .entry)) (t .end)) (now (s .entry)) (t .at) ⌝ }
-{
-    let f = form_at(UNDEF, s, t.end);
-    match f {
-        Form::Formed(v, e) => match v {
-            Value::MacroName(a, b) => Named::Name(a, b, e),
-            Value::Nothing => Named::Refused(7, t.at),
-            Value::Times(_, _) => Named::Refused(7, t.at),
-            Value::NetType(_) => Named::Refused(7, t.at),
-            Value::Cell(_) => Named::Refused(7, t.at),
-            Value::Drive(_) => Named::Refused(7, t.at),
-            Value::Version(_) => Named::Refused(7, t.at),
-            Value::StartingSet => Named::Refused(7, t.at),
-            Value::Reset => Named::Refused(7, t.at),
-        },
-        Form::Unformed => Named::Refused(7, t.at),
-        Form::Barred(n, p) => Named::Refused(n, p),
-    }
 }
 
 // The change of blocks by a word at `at` that ends at `e`, or 8.

@@ -20,7 +20,7 @@ use Rattle.passing.proofs.Whole.{demand3}
 use Rattle.flatten.specs.Flattening.{Lent, roomsOf, Flattens}
 use Rattle.flatten.specs.declared.Flattened.{Flattened}
 use Rattle.claims.specs.Demands.{PassRight, Returned, DemandThree}
-use Rattle.claims.proofs.Taken.{taken}
+use Rattle.turns.proofs.Taken.{taken}
 
 pass-right : (ms : List Macro) → PassRight ms
 pass-right ms = record { exact = pass-words ms; names-first = pass-first ms; longest = chain-exact ms }
@@ -44,10 +44,10 @@ module _ (h : HandOver) (r : Rooms) (e : isSound h r ≡ true) where
 returned : (h : HandOver) (l l′ : Lent) (a : Flattened) → Flattens h l l′ a → Returned h l a
 returned h l l′ a f =
     record {
-      deepest = λ n k. subst (λ (x : ℕ). x ≤ n) (sym (ap (λ (z : Flattened). z .deepest) (f .answer))) (demand3 h (roomsOf l) .deepest n k);
+      deepest = λ n k. subst (λ (x : ℕ). x ≤ n) (sym (ap (λ (z : Flattened). z .deepest) (f .leaves .answer))) (demand3 h (roomsOf l) .deepest n k);
       refused =
           λ e s b w t m k n.
-          let q : a .number ≡ expansionAt b w .stop = ap (λ (z : Flattened). z .number) (f .answer) ∙ number-is h (roomsOf l) e s b w t m n in
+          let q : a .number ≡ expansionAt b w .stop = ap (λ (z : Flattened). z .number) (f .leaves .answer) ∙ number-is h (roomsOf l) e s b w t m n in
           (q, subst Soft (sym q) (demand3 h (roomsOf l) .each-soft s b w t m k));
     }
 

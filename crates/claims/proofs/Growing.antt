@@ -17,7 +17,7 @@ use Rattle.turns.specs.Turns.{turnAt}
 use Rattle.turns.specs.Runs.{Run, Outcome, ends, onto, follow, runFor, measure, runFrom, contextOf, startOf, outcomeOf, flattened}
 use Rattle.claims.specs.Growing.{Larger, wantsRoom, Grows, Front}
 use Rattle.claims.proofs.GrowingUsages.{Wider, front-same, front-behind, front-on}
-use Rattle.claims.proofs.Taken.{taken}
+use Rattle.turns.proofs.Taken.{taken}
 use Rattle.claims.proofs.GrowingTurns.{inRoom, textBy, TurnsGrow, both-go, both-stop, both-end, lacks-room, turn-grows}
 
 -- ---- a run

@@ -11,9 +11,10 @@ use borrow.Author.Tests.{ltb-false, le-ltb}
 use Rattle.lex.proofs.Tests.{by-test, true-false}
 use Rattle.definition.specs.Definitions.{Macro}
 use Rattle.writing.specs.Written.{Written, placed, mapOf, freshAfter, Room, Put, full, fitted, putIn}
-use Rattle.pending.specs.Pending.{Pending, View, blanks, calls, names, opens, closes, commas, bars, plain, view}
+use Rattle.pending.specs.Pending.{Pending, view}
+use Rattle.pending.proofs.Viewing.{by-usages}
 use Rattle.replace.specs.Replacing.{Got, refused, got, replace, deepest}
-use Rattle.expand.specs.Expanding.{Outer, Expansion, Next, ends, writing, replacing, dealBy, onGot, onPut, walk, onward, writes, first, expand}
+use Rattle.expand.specs.Expanding.{Outer, Expansion, Next, ends, writing, replacing, onGot, onPut, walk, onward, writes, first, expand}
 use Rattle.turns.specs.States.{roomAfter}
 use Rattle.claims.specs.Growing.{Front, wantsRoom}
 
@@ -97,17 +98,6 @@ pub record ExpansionGrows (e e′ : Expansion) : Type 0 where
 ends-grow : (n i : ℕ) (r r′ : Room) → ExpansionGrows (ends n i r) (ends n i r′)
 ends-grow n i r r′ = record { text-front = front-none []; alike = λ z. refl }
 
-deal-grows : (v : View) (wr wr′ : Expansion) (re re′ : List ℕ → Expansion) → ExpansionGrows wr wr′
-    → ((w : List ℕ) → ExpansionGrows (re w) (re′ w)) → ExpansionGrows (dealBy v wr re) (dealBy v wr′ re′)
-deal-grows blanks wr wr′ re re′ f g = f
-deal-grows (calls w) wr wr′ re re′ f g = g w
-deal-grows (names w) wr wr′ re re′ f g = f
-deal-grows (opens c) wr wr′ re re′ f g = f
-deal-grows (closes b) wr wr′ re re′ f g = f
-deal-grows commas wr wr′ re re′ f g = f
-deal-grows (bars n i) wr wr′ re re′ f g = f
-deal-grows plain wr wr′ re re′ f g = f
-
 -- the rest of an expansion, in two rooms
 abbrev NextGrows : Next → Type 0
 NextGrows go = (q rest : List Pending) (r r′ : Room) → Wider r r′ → ExpansionGrows (go q rest r) (go q rest r′)
@@ -132,11 +122,10 @@ unfolding walk
 walk-grows go f o ms [] r r′ w = ends-grow 0 0 r r′
 walk-grows go f o ms (p ∷ ps) r r′ w =
     let ws = placed 0 (o .place) (writes o p) in
-    deal-grows (view p) (onPut ws r (putIn r ws) (λ a. walk go o ms a ps)) (onPut ws r′ (putIn r′ ws) (λ a. walk go o ms a ps))
-    (λ u. onGot go r (replace ms u (p .own) ps)) (λ u. onGot go r′ (replace ms u (p .own) ps))
-    (puts-grow ws r r′ (putIn r ws) (putIn r′ ws) (put-grows r r′ ws w) (λ a. walk go o ms a ps)
+    by-usages ExpansionGrows (view p)
+    (λ z. puts-grow ws r r′ (putIn r ws) (putIn r′ ws) (put-grows r r′ ws w) (λ a. walk go o ms a ps)
     (λ a b v. walk-grows go f o ms ps a b v))
-    (λ u. got-grows go f r r′ w (replace ms u (p .own) ps))
+    (λ u z. got-grows go f r r′ w (replace ms u (p .own) ps))
 
 onward-grows : (n : ℕ) (o : Outer) (ms : List Macro) → NextGrows (onward n o ms)
 unfolding onward

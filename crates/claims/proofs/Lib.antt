@@ -1,10 +1,6 @@
-pub mod Taken
-pub mod Files
 pub mod GrowingUsages
 pub mod GrowingTurns
 pub mod Growing
-pub mod RefusedUsages
-pub mod RefusedTurns
 pub mod Stretches
 pub mod Telling
 pub mod NothingDropped

@@ -13,19 +13,19 @@ use Rattle.writing.specs.Written.{textOf}
 use Rattle.blocks.specs.Blocks.{Conditional, takenBy}
 use Rattle.handover.specs.Sizes.{HandOver, Rooms, isSound}
 use Rattle.handover.proofs.Laws.{sound-facts}
-use Rattle.turns.specs.States.{Context, Frame, State, Made, stop, Here}
+use Rattle.turns.specs.States.{Context, Frame, State, Here}
 use Rattle.turns.specs.Acts.{Act}
 use Rattle.turns.specs.Asking.{Taken, Ignored, Asks, to-copy, to-skip, to-hide, to-define, to-undefine, to-include, to-keep, to-spell, to-expand}
-use Rattle.turns.specs.Turns.{hereAt, turnAt}
+use Rattle.turns.specs.Turns.{hereAt}
 use Rattle.turns.specs.Runs.{Run, measure, runFrom, contextOf, startOf, Outcome, flattened}
-use Rattle.turns.proofs.Lines.{lines-are}
 use Rattle.passing.proofs.Whole as run
 use Rattle.claims.specs.Growing.{Front}
-use Rattle.claims.specs.Files.{fileOf}
+use Rattle.turns.specs.Files.{fileOf}
 use Rattle.claims.specs.Stretches.{takenTo, writtenBy, OpenFile, Stretch, Told, start, none}
 use Rattle.claims.specs.NothingDropped.{AllTaken, AllWhole, EndsBy, AsWritten, copied, kept, InTaken, token, definition, removal, inclusion, directive, word, usage, PassedOver, skipped, hidden, Ignoring, NothingDropped}
-use Rattle.claims.proofs.Taken.{taken}
-use Rattle.claims.proofs.RefusedTurns.{StopIn, CondsIn, TurnIn, turn-good, conds-are}
+use Rattle.turns.proofs.Taken.{taken}
+use Rattle.turns.proofs.RefusedTurns.{CondsIn, conds-are}
+use Rattle.turns.proofs.Refused.{stop-in}
 use Rattle.claims.proofs.Telling.{told-through, all-taken, byte-within, ends-by, rest-of, all-whole}
 
 -- ---- acts
@@ -80,12 +80,6 @@ module _ (h : HandOver) (r : Rooms) (e : isSound h r ≡ true) where
   unfolding AllTaken
   first = (none, tt)
 
-  pub stop-in : (s : State) {u : List ℕ} → Told x s₀ s u → (n f p : ℕ) (m : Made) → turnAt x s ≡ stop n f p m → StopIn x n f p
-  unfolding TurnIn
-  stop-in s t n f p m q =
-      let g = told-through x s₀ t in
-      subst (TurnIn x) q (turn-good x s (lines-are h r e s g) (conds-are h r e s g))
-
   pub joined : EndsBy x s₀ (flattened h r)
   unfolding runFrom
   joined =
@@ -105,7 +99,7 @@ module _ (h : HandOver) (r : Rooms) (e : isSound h r ≡ true) where
       let p = run.part x s₀ s (sound-facts h r e .entries) (told-through x s₀ t) in
       let q : runFrom x s .number ≡ 0 =
       sym (ap (λ (y : Run). y .number) (p .whole)) ∙ sym (ap (λ (o : Outcome). o .number) (taken h r e)) ∙ z in
-      all-whole x s₀ first (sound-facts h r e .entries) (λ s u t n f p m q. omega (arith, stop-in s t n f p m q .low)) (measure x (s .frames)) s u (omega arith) t q
+      all-whole x s₀ first (sound-facts h r e .entries) (λ s u t n f p m q. omega (arith, stop-in h r e s (told-through x s₀ t) n f p m q .low)) (measure x (s .frames)) s u (omega arith) t q
 
   pub nothing-dropped : NothingDropped h r x s₀
   nothing-dropped =

@@ -7,6 +7,7 @@ use mathlib.Core.Path.{_≡_, refl, sym, ap, subst}
 use lib.Dec.{eqb}
 use lib.ListN.{length}
 use borrow.Author.Tests.{eqb-true}
+use Rattle.text.specs.Bytes.{part}
 use Rattle.lex.specs.Tokens.{inFile, LineComment, End, is, nameOf}
 use Rattle.lex.specs.declared.Token.{Token}
 use Rattle.lex.proofs.Tests.{by-test, and-left, and-right, true-false}
@@ -21,9 +22,10 @@ use Rattle.copying.specs.Cursors.{opening, cursorPast, cursorBehind}
 use Rattle.expand.specs.Expanding.{Outer, expand}
 use Rattle.handover.specs.Entries.{nameOf as entryNamed}
 use Rattle.handover.specs.Sizes.{HandOver, Rooms, isSound}
+use Rattle.macros.proofs.Each.{Each, each-none, each-with}
 use Rattle.turns.specs.States.{Context, Frame, State, Turn, more, stop, finished, Here, framesAt, behind, write}
 use Rattle.turns.specs.States as states
-use Rattle.turns.specs.Acts.{Act, nameIn}
+use Rattle.turns.specs.Acts.{Act}
 use Rattle.turns.specs.Asking.{Named, Remain, all-but, no-more, Spelled, file-name, line-number, Asks, to-refuse, to-leave, to-copy, to-skip, to-hide, to-branch, to-define, to-undefine, to-include, to-keep, to-spell, to-expand}
 use Rattle.turns.specs.Usages.{outerOf, usageEnd, expandHere}
 use Rattle.turns.specs.Performing.{perform}
@@ -32,15 +34,15 @@ use Rattle.turns.specs.Runs.{contextOf, startOf, Outcome, flattened}
 use Rattle.turns.proofs.Turning.{by-turn, by-write}
 use Rattle.turns.proofs.Asking.{act-asks}
 use Rattle.turns.proofs.Lines.{Reads, Framed, turn-framed, start-framed}
-use Rattle.claims.specs.Files.{fileOf, tokenIn, Read}
+use Rattle.turns.specs.Files.{fileOf, tokenIn, Read}
 use Rattle.claims.specs.Pieces.{outerAt, directive, file-word, line-word, Piece, copied, kept, newline, word, Pieces, then}
 use Rattle.claims.specs.Pieces as pieces
 use Rattle.claims.specs.Stretches.{writtenBy, OpenFile, Acted, Told, start, stretch, leaving}
 use Rattle.claims.specs.NothingDropped.{Begun, nothing, begun, Ends, at-end, refused}
-use Rattle.claims.proofs.Taken.{taken}
-use Rattle.claims.proofs.Files.{read-here, accented-here}
+use Rattle.turns.proofs.Taken.{taken}
+use Rattle.turns.proofs.Files.{read-here, accented-here}
 use Rattle.claims.proofs.NothingDropped.{joined}
-use Rattle.claims.proofs.PiecesMacros.{Each, each-none, each-with, Known, defined, AllKnown, known-define, known-undefine, known-started}
+use Rattle.claims.proofs.PiecesMacros.{Known, defined, AllKnown, known-define, known-undefine, known-started}
 use Rattle.claims.proofs.PiecesExpanding.{Made, expand-made}
 
 -- one piece
@@ -128,7 +130,7 @@ module _ (x : Context) (s : State) (f : Frame) (fs : List Frame) (r : Reads x f)
       known-define x m (s .macros) (defined (record { file = f .file; at = f .cursor .at; end = e; accented = accented-here x s f fs r a; gives = q })) k
 
   left-known : (e : ℕ) (ms : List Macro) → Remain here e ms → AllKnown x ms
-  left-known e ms (all-but v a q) = known-undefine x (nameIn v body) (s .macros) k
+  left-known e ms (all-but p a q) = known-undefine x (part body p e) (s .macros) k
   left-known e ms (no-more a) = each-none (Known x)
 
   spelled-piece : (w : List ℕ) → Spelled here w → Piece x w

@@ -14,10 +14,10 @@ use Rattle.lex.proofs.Tests.{by-test, true-false}
 use Rattle.lex.proofs.Progress.{token-at}
 use Rattle.names.specs.Names.{FileWord, directiveOf}
 use Rattle.places.specs.Places.{decimal, lineAt}
-use Rattle.pending.specs.Pending.{Pending, kindView, view}
-use Rattle.expand.specs.Expanding.{Outer, wordWrites, writes, isCall}
+use Rattle.pending.specs.Pending.{Pending, kindView, isCall, view}
+use Rattle.expand.specs.Expanding.{Outer, wordWrites, writes}
 use Rattle.turns.specs.States.{Context}
-use Rattle.claims.specs.Files.{fileOf, tokenIn, Read}
+use Rattle.turns.specs.Files.{fileOf, tokenIn, Read}
 use Rattle.claims.specs.Pieces.{outerAt, Source, Kept, Word, file-word, line-word, Piece, copied, kept, newline, word, expanded, Worded, as-file, as-line}
 use Rattle.claims.proofs.PiecesTokens.{isAccent, token-begins}
 use Rattle.claims.proofs.PiecesTexts.{Tame, source-tame}

@@ -1,22 +1,22 @@
 -- What a usage writes is made of pieces.
 -- Assumes nothing.
 use Prim.Native.Nat.{ℕ, zero, suc}
-use mathlib.Core.Bool.{false}
 use mathlib.Core.List.{List, [], _∷_, _++_}
-use mathlib.Core.Path.{_≡_, refl}
 use lib.Dec.{ltb}
 use lib.ListN.{length}
 use Rattle.lex.proofs.Tests.{by-test}
 use Rattle.definition.specs.Definitions.{Macro}
 use Rattle.writing.specs.Written.{Written, placed, textOf, Room, Put, full, fitted, putIn}
 use Rattle.writing.proofs.Laws.{text-placed, text-append}
-use Rattle.pending.specs.Pending.{Pending, fileFrom, View, blanks, calls, names, opens, closes, commas, bars, plain, view}
+use Rattle.pending.specs.Pending.{Pending, fileFrom, view}
+use Rattle.pending.proofs.Viewing.{by-usage}
 use Rattle.replace.specs.Replacing.{Got, refused, got, replace}
-use Rattle.expand.specs.Expanding.{Outer, writes, Expansion, Next, onGot, onPut, isCall, dealBy, walk, onward, first, expand}
+use Rattle.expand.specs.Expanding.{Outer, writes, Expansion, Next, onGot, onPut, walk, onward, first, expand}
+use Rattle.macros.proofs.Each.{Each, each-none, each-append}
 use Rattle.turns.specs.States.{Context}
-use Rattle.claims.specs.Files.{fileOf, Accented}
+use Rattle.turns.specs.Files.{fileOf, Accented}
 use Rattle.claims.specs.Pieces.{outerAt, Source, Piece, expanded, Pieces, none, then}
-use Rattle.claims.proofs.PiecesMacros.{Each, each-none, each-append, AllKnown}
+use Rattle.claims.proofs.PiecesMacros.{AllKnown}
 use Rattle.claims.proofs.PiecesSources.{Sources, GotFrom, replace-from, InFile, file-each}
 
 -- ---- bytes written
@@ -42,16 +42,6 @@ module _ (x : Context) (i p : ℕ) (a : Accented x i p 0) (ms : List Macro) (kno
   abbrev Gives : Expansion → Type 0
   Gives e = Made x (e .text)
 
-  deal-made : (v : View) (wr : Expansion) (re : List ℕ → Expansion) → (isCall v ≡ false → Gives wr) → ((w : List ℕ) → Gives (re w)) → Gives (dealBy v wr re)
-  deal-made blanks wr re f g = f refl
-  deal-made (calls w) wr re f g = g w
-  deal-made (names w) wr re f g = f refl
-  deal-made (opens c) wr re f g = f refl
-  deal-made (closes b) wr re f g = f refl
-  deal-made commas wr re f g = f refl
-  deal-made (bars n j) wr re f g = f refl
-  deal-made plain wr re f g = f refl
-
   put-made : (b : List ℕ) (r : Room) (y : Put) (go : Room → Expansion) → Piece x b → ((r′ : Room) → Gives (go r′))
       → Gives (onPut (placed 0 (o .place) b) r y go)
   put-made b r (full n) go h g = made-none x
@@ -69,9 +59,9 @@ module _ (x : Context) (i p : ℕ) (a : Accented x i p 0) (ms : List Macro) (kno
     walk-made r [] h = made-none x
     walk-made r (q ∷ ps) h =
         let ws = placed 0 (o .place) (writes o q) in
-        deal-made (view q) (onPut ws r (putIn r ws) (λ r′. walk go o ms r′ ps)) (λ w. onGot go r (replace ms w (q .own) ps))
+        by-usage Gives (view q)
         (λ e. put-made (writes o q) r (putIn r ws) (λ r′. walk go o ms r′ ps) (expanded i p q a (h .0) e) (λ r′. walk-made r′ ps (h .1)))
-        (λ w. got-made r (replace ms w (q .own) ps) (replace-from x i (Source x i) (λ p h e. h) ms w (q .own) ps known (h .1)))
+        (λ w e. got-made r (replace ms w (q .own) ps) (replace-from x i (Source x i) (λ p h e. h) ms w (q .own) ps known (h .1)))
 
   onward-made : (n : ℕ) (q rest : List Pending) (r : Room) → Sources x i q → Sources x i rest → Gives (onward n o ms q rest r)
   unfolding onward

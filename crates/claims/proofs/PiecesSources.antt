@@ -1,9 +1,9 @@
 -- Each pending token of an expansion is a token of the usage's list, of a macro's text or of a default.
 -- Assumes nothing.
 use Prim.Native.Nat.{ℕ, _<_}
-use mathlib.Core.Bool.{Bool, true, false, _&&_}
+use mathlib.Core.Bool.{false, _&&_}
 use mathlib.Core.Option.{Option, none, some}
-use mathlib.Core.List.{List, [], _∷_}
+use mathlib.Core.List.{List, [], _∷_, List·Memᴰ as In, List·Memᴰ·head as first, List·Memᴰ·tail as later}
 use mathlib.Core.Path.{_≡_, refl, sym, ap, subst}
 use native.Mathlib.Omega.{arith}
 use lib.Dec.{eqb}
@@ -12,51 +12,34 @@ use Rattle.text.specs.Bytes.{same}
 use Rattle.lex.specs.Tokens.{inFile, inText, tokenAt, tokens}
 use Rattle.lex.specs.declared.Mode.{Mode}
 use Rattle.lex.specs.declared.Token.{Token}
-use Rattle.lex.proofs.Tests.{by-test, true-false}
+use Rattle.lex.proofs.Tests.{by-test}
 use Rattle.lex.proofs.Listing.{by-tokens, file-mode, tokens-out}
 use Rattle.definition.specs.Definitions.{Parameter, parameter, Macro, macro}
 use Rattle.store.specs.Stores.{macroAt, find}
 use Rattle.store.specs.declared.Found.{Found}
 use Rattle.store.specs.declared.Found.the-variants.{At, Missing}
 use Rattle.sets.specs.Sets.{elem, insertAsc}
-use Rattle.pending.specs.Pending.{Pending, fileToken, fileTokens, fileFrom, textToken, textTokens, isSpacing, View, blanks, calls, names, opens, closes, commas, bars, plain, view}
+use Rattle.pending.specs.Pending.{Pending, fileToken, fileTokens, fileFrom, textToken, textTokens, isSpacing, View, blanks, calls, names, opens, closes, commas, bars, plain, view, isBarred}
+use Rattle.pending.proofs.Viewing.{free-bar, by-name}
 use Rattle.arguments.specs.Arguments.{Move, keep, close, fail, moveOf, Args, args, push, split, after, collect, seekBy, seek}
 use Rattle.arguments.specs.Arguments as arguments
+use Rattle.arguments.proofs.Moves.{stays-free}
 use Rattle.replace.specs.Tidying.{beforeNewline, isBackslash, cleanedAll, dropLeft, keepLast, dropRight, tidy, tidyAll}
 use Rattle.replace.specs.Replacing.{fallback, orElse, value, instead, imageOf, inPlace, textWith, Got, refused, got, enough, Listed, listed, accepted, listFor, withList, replaceBy, replaceAt, replace}
 use Rattle.replace.specs.Replacing as replacing
+use Rattle.macros.proofs.Each.{Each, each-none, each-with, each-append}
 use Rattle.turns.specs.States.{Context}
-use Rattle.claims.specs.Files.{fileOf, tokenIn}
-use Rattle.claims.specs.Pieces.{Among, first, later, Defined, isBarred, Source, of-list, of-text, of-default, tidied}
-use Rattle.claims.proofs.PiecesMacros.{Each, each-none, each-with, each-append, Known, empty, defined, AllKnown, known-at}
+use Rattle.turns.specs.Files.{fileOf, tokenIn}
+use Rattle.claims.specs.Pieces.{Defined, Source, of-list, of-text, of-default, tidied}
+use Rattle.claims.proofs.PiecesMacros.{Known, empty, defined, AllKnown, known-at}
 
 -- ---- tokens
 
--- a token that stays in a list is not refused there
-kept-view : (v : View) (due due′ : List ℕ) → moveOf v due ≡ keep due′ → isBarred v ≡ false
-kept-view blanks due due′ e = refl
-kept-view (calls w) due due′ e = refl
-kept-view (names w) due due′ e = refl
-kept-view (opens c) due due′ e = refl
-kept-view (closes b) due due′ e = refl
-kept-view commas due due′ e = refl
-kept-view (bars n i) due due′ e = cc
-kept-view plain due due′ e = refl
-
--- what 2 to 6 bar is refused in a list
-pub free-bar : (p : Pending) → isBarred (view p) ≡ false → eqb (p .bar) 0 ≡ true
-unfolding view
-free-bar p h = go (eqb (p .bar) 0) refl
-  where
-    go : (b : Bool) → eqb (p .bar) 0 ≡ b → b ≡ true
-    go true e = refl
-    go false e = true-false (isBarred (view p)) (rw e) h
-
-texts-each : (P : Pending → Type 0) (s set : List ℕ) (ts : List Token) → ((t : Token) → Among t ts → P (textToken s set t))
+texts-each : (P : Pending → Type 0) (s set : List ℕ) (ts : List Token) → ((t : Token) → In t ts → P (textToken s set t))
     → Each P (textTokens s set ts)
 unfolding textTokens
 texts-each P s set [] h = each-none P
-texts-each P s set (t ∷ ts) h = each-with P (textToken s set t) (textTokens s set ts) (h t first) (texts-each P s set ts (λ u a. h u (later a)))
+texts-each P s set (t ∷ ts) h = each-with P (textToken s set t) (textTokens s set ts) (h t (first refl)) (texts-each P s set ts (λ u a. h u (later a)))
 
 module _ (x : Context) (i : ℕ) where
   abbrev pub Sources : List Pending → Type 0
@@ -102,23 +85,23 @@ module _ (x : Context) (i : ℕ) where
     OptionFrom none = Unit {0}
     OptionFrom (some a) = Sources a
 
-    fallback-sources : (f : List ℕ) (d : Option (List ℕ)) → Among (parameter f d) fs → Sources (fallback set d)
+    fallback-sources : (f : List ℕ) (d : Option (List ℕ)) → In (parameter f d) fs → Sources (fallback set d)
     fallback-sources f none a = each-none (Source x i)
     fallback-sources f (some d) a = texts-each (Source x i) d set (tokens inFile d 0) (λ u b. of-default set u k a b)
 
-    else-sources : (f : List ℕ) (d : Option (List ℕ)) (ps : List Pending) → Among (parameter f d) fs → Sources ps → Sources (orElse set d ps)
+    else-sources : (f : List ℕ) (d : Option (List ℕ)) (ps : List Pending) → In (parameter f d) fs → Sources ps → Sources (orElse set d ps)
     else-sources f d [] a h = fallback-sources f d a
     else-sources f d (p ∷ ps) a h = h
 
-    value-sources : (gs : List Parameter) (xs : List (List Pending)) (w : List ℕ) → ((g : Parameter) → Among g gs → Among g fs) → Each Sources xs
+    value-sources : (gs : List Parameter) (xs : List (List Pending)) (w : List ℕ) → ((g : Parameter) → In g gs → In g fs) → Each Sources xs
         → OptionFrom (value set gs xs w)
     unfolding OptionFrom Each value
     value-sources [] xs w a h = tt
     value-sources (parameter f d ∷ gs) [] w a h =
-        by-test OptionFrom (same w f) (λ e. fallback-sources f d (a (parameter f d) first))
+        by-test OptionFrom (same w f) (λ e. fallback-sources f d (a (parameter f d) (first refl)))
         (λ e. value-sources gs [] w (λ g b. a g (later b)) h)
     value-sources (parameter f d ∷ gs) (y ∷ xs) w a h =
-        by-test OptionFrom (same w f) (λ e. else-sources f d y (a (parameter f d) first) (h .0))
+        by-test OptionFrom (same w f) (λ e. else-sources f d y (a (parameter f d) (first refl)) (h .0))
         (λ e. value-sources gs xs w (λ g b. a g (later b)) (h .1))
 
     instead-sources : (o : Option (List Pending)) (p : Pending) → OptionFrom o → Source x i p → Sources (instead o p)
@@ -129,14 +112,7 @@ module _ (x : Context) (i : ℕ) where
     image-sources : (v : View) (p : Pending) (f : List ℕ → Option (List Pending)) → ((w : List ℕ) → OptionFrom (f w)) → Source x i p
         → Sources (imageOf v p f)
     unfolding Each
-    image-sources blanks p f h g = (g, tt)
-    image-sources (calls w) p f h g = (g, tt)
-    image-sources (names w) p f h g = instead-sources (f w) p (h w) g
-    image-sources (opens c) p f h g = (g, tt)
-    image-sources (closes b) p f h g = (g, tt)
-    image-sources commas p f h g = (g, tt)
-    image-sources (bars m j) p f h g = (g, tt)
-    image-sources plain p f h g = (g, tt)
+    image-sources v p f h g = by-name Sources v (g, tt) (λ w e. instead-sources (f w) p (h w) g)
 
     place-sources : (f : List ℕ → Option (List Pending)) (ps : List Pending) → ((w : List ℕ) → OptionFrom (f w)) → Sources ps
         → Sources (inPlace f ps)
@@ -175,7 +151,7 @@ module _ (x : Context) (i : ℕ) where
     after-from : (m : Move) (p : Pending) (ps : List Pending) (go : List ℕ → Args) (due : List ℕ) → moveOf (view p) due ≡ m → R p → Each R ps
         → ((d : List ℕ) → ArgsFrom (go d)) → ArgsFrom (after m p ps go)
     unfolding ArgsFrom Each
-    after-from (keep due′) p ps go due e h g f = push-from p (go due′) (source p h (kept-view (view p) due due′ e)) (f due′)
+    after-from (keep due′) p ps go due e h g f = push-from p (go due′) (source p h (stays-free (view p) due (λ n i q. let z : _≡_ {A = ℕ} 0 1 = cc in omega arith))) (f due′)
     after-from arguments.part p ps go due e h g f = split-from (go []) (f [])
     after-from close p ps go due e h g f = (tt, tt, g)
     after-from (fail n j) p ps go due e h g f = tt

@@ -4,7 +4,7 @@
 use Prim.Native.Nat.{ℕ, _<_}
 use mathlib.Core.Bool.{Bool, true, false, not, _&&_, _||_}
 use mathlib.Core.Option.{none, some}
-use mathlib.Core.List.{List, [], _∷_}
+use mathlib.Core.List.{List, [], _∷_, List·Memᴰ as In, List·Memᴰ·head as first, List·Memᴰ·tail as later}
 use mathlib.Core.Path.{_≡_, refl, sym, ap, subst, _∙_}
 use lib.Dec.{eqb, leb}
 use lib.ListN.{length, getD}
@@ -18,24 +18,25 @@ use Rattle.lex.proofs.Listing.{by-tokens}
 use Rattle.names.specs.Names.{barsText}
 use Rattle.brackets.specs.Steps.{Step, on, done, torn}
 use Rattle.storing.specs.Stored.{joinedFrom}
-use Rattle.afresh.specs.Judging.{barredGrave, isStray, isUnfit, badIn, badText, isAccented, heldBy, unless, badHeld, badDefault}
+use Rattle.afresh.specs.Judging.{isBarred as isBarredToken, barredGrave}
+use Rattle.afresh.specs.Unfit.{isAccented, heldBy, unless, isStray, isUnfit, unfitIn, unfitText, unfitHeld, unfitDefault}
 use Rattle.definition.specs.Definitions.{Parameter, parameter, macro}
 use Rattle.genuine.specs.Fitness.{fitName, isTrimmed, fitStored, fitFormal, isNamed, fitParameter, fitParameters, fitMacro}
 use Rattle.genuine.proofs.Tests.{or-left, or-right, and-second, passed}
 use Rattle.genuine.proofs.Fitting.{good-fit}
-use Rattle.pending.specs.Pending.{Pending, fileToken, textToken, isComment, kindView, view}
+use Rattle.pending.specs.Pending.{Pending, fileToken, textToken, isComment, kindView, view, isBarred}
+use Rattle.pending.proofs.Viewing.{free-bar}
 use Rattle.replace.specs.Tidying.{cleaned}
+use Rattle.macros.proofs.Each.{Each, each-none, each-with}
 use Rattle.turns.specs.States.{Context}
-use Rattle.claims.specs.Files.{fileOf, tokenIn}
-use Rattle.claims.specs.Pieces.{Among, first, later, Defined, isBarred, Source, of-list, of-text, of-default, tidied}
-use Rattle.claims.proofs.PiecesMacros.{Each, each-none, each-with}
-use Rattle.claims.proofs.PiecesSources.{free-bar}
+use Rattle.turns.specs.Files.{fileOf, tokenIn}
+use Rattle.claims.specs.Pieces.{Defined, Source, of-list, of-text, of-default, tidied}
 use Rattle.claims.proofs.PiecesTokens.{isAccent, Begins, token-begins}
 
-among-each : {A : Type 0} (P : A → Type 0) {a : A} {l : List A} → Among a l → Each P l → P a
+in-each : {A : Type 0} (P : A → Type 0) {a : A} {l : List A} → In a l → Each P l → P a
 unfolding Each
-among-each P first h = h .0
-among-each P (later m) h = among-each P m (h .1)
+in-each P (first e) h = subst P (sym e) (h .0)
+in-each P (later m) h = in-each P m (h .1)
 
 -- ---- the tokens of a text
 
@@ -56,13 +57,13 @@ record Fit (w : List ℕ) (t : Token) : Type 0 where
   free : eqb (t .bar) 0 ≡ true
   word : is Grave t ≡ true → barsText (nameOf w t) ≡ false
 
-text-fit : (w : List ℕ) (odd : Bool) (ts : List Token) → badIn w odd ts ≡ false → Each (Fit w) ts
-unfolding Each badIn
+text-fit : (w : List ℕ) (odd : Bool) (ts : List Token) → unfitIn w odd ts ≡ false → Each (Fit w) ts
+unfolding Each unfitIn
 text-fit w odd [] e = tt
 text-fit w odd (t ∷ ts) e =
-    let p = passed (isUnfit w odd t || barredGrave w t) (badIn w (marksAfter odd t) ts) e in (
+    let p = passed (isUnfit w odd t || barredGrave w t) (unfitIn w (marksAfter odd t) ts) e in (
       record {
-        free = not-false (eqb (t .bar) 0) (or-left (not (eqb (t .bar) 0)) (isStray w odd t) (or-left (isUnfit w odd t) (barredGrave w t) (p .0)));
+        free = not-false (eqb (t .bar) 0) (or-left (isBarredToken t) (isStray w odd t) (or-left (isUnfit w odd t) (barredGrave w t) (p .0)));
         word = λ g. and-second (is Grave t) (barsText (nameOf w t)) g (or-right (isUnfit w odd t) (barredGrave w t) (p .0));
       },
       text-fit w (marksAfter odd t) ts (p .1),
@@ -78,16 +79,16 @@ unless-plain (on ks) go P e f = f ks e
 unless-plain done go P e f = true-false true refl e
 unless-plain torn go P e f = true-false true refl e
 
-default-plain : (w ks : List ℕ) (ts : List Token) → badHeld w ks ts ≡ false → Each (Plain w) ts
-unfolding Each badHeld
+default-plain : (w ks : List ℕ) (ts : List Token) → unfitHeld w ks ts ≡ false → Each (Plain w) ts
+unfolding Each unfitHeld
 default-plain w ks [] e = tt
 default-plain w ks (t ∷ ts) e =
-    let p = passed (isUnfit w false t || isAccented w t) (unless (heldBy w t ks) (λ js. badHeld w js ts)) e in (
+    let p = passed (isUnfit w false t || isAccented w t) (unless (heldBy w t ks) (λ js. unfitHeld w js ts)) e in (
       record {
-        free = not-false (eqb (t .bar) 0) (or-left (not (eqb (t .bar) 0)) (isStray w false t) (or-left (isUnfit w false t) (isAccented w t) (p .0)));
+        free = not-false (eqb (t .bar) 0) (or-left (isBarredToken t) (isStray w false t) (or-left (isUnfit w false t) (isAccented w t) (p .0)));
         none = λ g. and-second (not (is String t)) (holds 96 (part w (t .at) (t .end))) (ap not g) (or-right (isUnfit w false t) (isAccented w t) (p .0));
       },
-      unless-plain (heldBy w t ks) (λ js. badHeld w js ts) (Each (Plain w) ts) (p .1) (λ js q. default-plain w js ts q),
+      unless-plain (heldBy w t ks) (λ js. unfitHeld w js ts) (Each (Plain w) ts) (p .1) (λ js q. default-plain w js ts q),
     )
 
 holds-first : (b : ℕ) (l : List ℕ) → eqb 0 b ≡ false → holds b l ≡ false → eqb (getD l 0 0) b ≡ false
@@ -99,15 +100,15 @@ holds-first b (c ∷ l) z e = or-left (eqb c b) (holds b l) e
 
 DefaultGood : Parameter → Type 0
 DefaultGood (parameter f none) = Unit {0}
-DefaultGood (parameter f (some d)) = badDefault d ≡ false
+DefaultGood (parameter f (some d)) = unfitDefault d ≡ false
 
-stored-text : (w : List ℕ) → fitStored true w ≡ true → badText w ≡ false
+stored-text : (w : List ℕ) → fitStored true w ≡ true → unfitText w ≡ false
 unfolding fitStored
-stored-text w e = not-true (badText w) (and-right (isTrimmed w) (not (badText w)) e)
+stored-text w e = not-true (unfitText w) (and-right (isTrimmed w) (not (unfitText w)) e)
 
-stored-default : (d : List ℕ) → fitStored false d ≡ true → badDefault d ≡ false
+stored-default : (d : List ℕ) → fitStored false d ≡ true → unfitDefault d ≡ false
 unfolding fitStored
-stored-default d e = not-true (badDefault d) (and-right (isTrimmed d) (not (badDefault d)) e)
+stored-default d e = not-true (unfitDefault d) (and-right (isTrimmed d) (not (unfitDefault d)) e)
 
 parameter-good : (p : Parameter) (ps : List Parameter) → fitParameter p ps ≡ true → DefaultGood p
 unfolding DefaultGood
@@ -129,12 +130,12 @@ module _ {x : Context} {n w : List ℕ} {fs : List Parameter} (k : Defined x (ma
       and-right (leb (length fs) 16) (fitParameters fs && fitStored true w)
       (and-right (fitName n) (leb (length fs) 16 && (fitParameters fs && fitStored true w)) e)
 
-  defined-text : badText w ≡ false
+  defined-text : unfitText w ≡ false
   defined-text = stored-text w (and-right (fitParameters fs) (fitStored true w) fit-rest)
 
-  defined-default : {f d : List ℕ} → Among (parameter f (some d)) fs → badDefault d ≡ false
+  defined-default : {f d : List ℕ} → In (parameter f (some d)) fs → unfitDefault d ≡ false
   unfolding DefaultGood
-  defined-default a = among-each DefaultGood a (parameters-good fs (and-left (fitParameters fs) (fitStored true w) fit-rest))
+  defined-default a = in-each DefaultGood a (parameters-good fs (and-left (fitParameters fs) (fitStored true w) fit-rest))
 
 -- ---- pending tokens
 
@@ -196,14 +197,14 @@ cleaned-tame q h =
     (λ s. record { free = refl; word = h .word; accent = h .accent; string = h .string }))
 
 pub source-tame : (x : Context) (i : ℕ) (q : Pending) → Source x i q → Tame q
-unfolding badText badDefault
+unfolding unfitText unfitDefault
 source-tame x i q (of-list p r e) =
     let t = tokenIn x i p in
     let z = token-begins inFile (fileOf x i) p (r .inside) (r .free) in
     record { free = r .free; word = view-word (fileToken (fileOf x i) t) e; accent = z .accent; string = z .string }
 source-tame x i q (of-text {w = w} set t k a) =
-    text-tame w set t (among-each (Stands w) a (tokens-stand w inText 0)) (among-each (Fit w) a (text-fit w false (tokens inText w 0) (defined-text k)))
+    text-tame w set t (in-each (Stands w) a (tokens-stand w inText 0)) (in-each (Fit w) a (text-fit w false (tokens inText w 0) (defined-text k)))
 source-tame x i q (of-default {d = d} set t k f a) =
-    let h : Stands d t = among-each (Stands d) a (tokens-stand d inFile 0) in
-    text-tame d set t h (default-fit d t h (among-each (Plain d) a (default-plain d [] (tokens inFile d 0) (defined-default k f))))
+    let h : Stands d t = in-each (Stands d) a (tokens-stand d inFile 0) in
+    text-tame d set t h (default-fit d t h (in-each (Plain d) a (default-plain d [] (tokens inFile d 0) (defined-default k f))))
 source-tame x i q (tidied {p = p} h) = cleaned-tame p (source-tame x i p h)

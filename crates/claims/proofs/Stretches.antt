@@ -27,7 +27,7 @@ use Rattle.turns.specs.Performing.{perform}
 use Rattle.turns.specs.Turns.{hereAt, turnAt}
 use Rattle.turns.proofs.Turning.{by-turn, by-write}
 use Rattle.turns.proofs.Asking.{word-ends, usage-ends, act-asks}
-use Rattle.claims.specs.Files.{fileOf}
+use Rattle.turns.specs.Files.{fileOf}
 use Rattle.claims.specs.Stretches.{takenTo, writtenBy, openFile, OpenFile, Acted, Behind, on, into, Stretch, Leaving}
 use Rattle.claims.specs.NothingDropped.{Begun, nothing, begun}
 

@@ -19,7 +19,7 @@ use Rattle.turns.specs.Through as through
 use Rattle.turns.specs.Runs.{Run, follow, runFor, measure, runFrom}
 use Rattle.turns.proofs.Progress.{turn-falls}
 use Rattle.turns.proofs.Running.{measure-some, run-more}
-use Rattle.claims.specs.Files.{fileOf}
+use Rattle.turns.specs.Files.{fileOf}
 use Rattle.claims.specs.Stretches.{OpenFile, Acted, Behind, on, into, Stretch, Told, start, stretch, leaving, Stretches, none, then}
 use Rattle.claims.specs.NothingDropped.{AllTaken, Within, Whole, AllWhole, Ends, at-end, refused}
 use Rattle.claims.proofs.Stretches.{Step, takes, departs, Does, turn-does}

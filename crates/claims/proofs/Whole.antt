@@ -11,7 +11,8 @@ use Rattle.claims.specs.Claim.{Bench, Conditions, Always, Claim}
 use Rattle.claims.proofs.NothingDropped.{nothing-dropped}
 use Rattle.claims.proofs.Demands.{demand-three}
 use Rattle.claims.proofs.Growing.{larger-grows}
-use Rattle.claims.proofs.Refused.{refused-placed, refused-number, one-exactly, unsound-one}
+use Rattle.claims.proofs.Refused.{refused-placed, refused-number}
+use Rattle.turns.proofs.Refused.{one-exactly, unsound-one}
 use Rattle.claims.proofs.Pieces.{text-from-pieces}
 use Rattle.claims.proofs.PiecesAccents.{accents-kept}
 

@@ -8,11 +8,11 @@ use lib.Dec.{eqb}
 use lib.ListN.{length, getD}
 use Rattle.text.specs.Bytes.{bytes}
 use Rattle.lex.specs.declared.Token.{Token}
+use Rattle.writing.specs.Buffers.{linesIn}
 use Rattle.conditions.specs.Grammar.{conditionAt}
 use Rattle.conditions.specs.Forms.{SameForm}
 use Rattle.handover.specs.Sizes.{HandOver, Rooms, isSound}
 use Rattle.turns.specs.Runs.{contextOf, startOf, flattened}
-use Rattle.turns.specs.Lines.{linesIn}
 use Rattle.turns.specs.Mapping.{InFile, All}
 use Rattle.turns.specs.Examples.{says, flat, Variant, textIn, fourDeep, oneCondition}
 use Rattle.classify.specs.Words.{Words}

@@ -1,6 +1,5 @@
 pub mod Growing
 pub mod Refused
-pub mod Files
 pub mod Pieces
 pub mod Stretches
 pub mod NothingDropped

@@ -2,13 +2,11 @@
 -- stretches wrote.
 -- Assumes nothing.
 use Prim.Native.Nat.{ℕ, _<_, _≤_}
-use mathlib.Core.Bool.{true, false, _||_}
+use mathlib.Core.Bool.{true, false}
 use mathlib.Core.List.{List, [], _∷_, _++_}
 use mathlib.Core.Path.{_≡_}
-use lib.Dec.{eqb}
 use lib.ListN.{length}
 use Rattle.text.specs.Bytes.{part}
-use Rattle.names.specs.Names.{Ifdef, Ifndef}
 use Rattle.directive.specs.declared.Value.{Value}
 use Rattle.definition.specs.Definitions.{Macro}
 use Rattle.writing.specs.Written.{textOf}
@@ -20,7 +18,7 @@ use Rattle.turns.specs.Usages.{expandHere}
 use Rattle.turns.specs.Turns.{hereAt, turnAt}
 use Rattle.turns.specs.Runs.{Outcome, flattened}
 use Rattle.claims.specs.Growing.{Front}
-use Rattle.claims.specs.Files.{fileOf, Accented}
+use Rattle.turns.specs.Files.{fileOf, Opener}
 use Rattle.claims.specs.Stretches.{OpenFile, openFile, Stretch, Leaving, Told, Stretches}
 
 -- each open file is taken up to where it stands
@@ -96,12 +94,6 @@ pub data InTaken : Act → Type 0 where
 pub data PassedOver : Act → Type 0 where
   skipped : PassedOver skips
   hidden : {e : ℕ} → PassedOver (hides e)
-
--- the `ifdef` or `ifndef` that stands at a conditional's place
-pub record Opener (x : Context) (c : Conditional) : Type 0 where
-  pub directive : ℕ
-  pub accented : Accented x (c .file) (c .byte) directive
-  pub opens : (eqb directive Ifdef || eqb directive Ifndef) ≡ true
 
 -- text is ignored in the state s: its innermost open conditional is not taken
 pub record Ignoring (x : Context) (s : State) : Type 0 where

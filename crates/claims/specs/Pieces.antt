@@ -1,9 +1,9 @@
 -- What the text is made of: pieces, each with the place that it comes from.
 -- Assumes nothing.
 use Prim.Native.Nat.{ℕ}
-use mathlib.Core.Bool.{Bool, true, false, _&&_}
+use mathlib.Core.Bool.{true, false, _&&_}
 use mathlib.Core.Option.{some}
-use mathlib.Core.List.{List, [], _∷_, _++_}
+use mathlib.Core.List.{List, [], _∷_, _++_, List·Memᴰ as In}
 use mathlib.Core.Path.{_≡_}
 use lib.Dec.{leb}
 use lib.ListN.{length}
@@ -16,17 +16,12 @@ use Rattle.directive.specs.declared.Form.the-variants.{Formed}
 use Rattle.directive.specs.Forms.{formAt}
 use Rattle.definition.specs.Definitions.{Parameter, parameter, Macro, macro, good, definitionAt}
 use Rattle.places.specs.Places.{quoted, decimal, lineAt, placeOf}
-use Rattle.pending.specs.Pending.{Pending, fileToken, textToken, View, blanks, calls, names, opens, closes, commas, bars, plain, view}
+use Rattle.pending.specs.Pending.{Pending, fileToken, textToken, isCall, isBarred, view}
 use Rattle.replace.specs.Tidying.{cleaned}
-use Rattle.expand.specs.Expanding.{Outer, isCall, writes}
+use Rattle.expand.specs.Expanding.{Outer, writes}
 use Rattle.handover.specs.Entries.{nameOf as entryNamed}
 use Rattle.turns.specs.States.{Context}
-use Rattle.claims.specs.Files.{fileOf, tokenIn, Read, Accented}
-
--- one of a list
-pub data Among {A : Type 0} (a : A) : List A → Type 0 where
-  first : {l : List A} → Among a (a ∷ l)
-  later : {b : A} {l : List A} → Among a l → Among a (b ∷ l)
+use Rattle.turns.specs.Files.{fileOf, tokenIn, Read, Accented}
 
 -- a macro that a `define` at p of file i gives
 pub record Defined (x : Context) (m : Macro) : Type 0 where
@@ -45,26 +40,15 @@ outerAt x i p =
       place = placeOf i (lineAt (fileOf x i) p);
     }
 
--- whether a token is refused in a list
-abbrev pub isBarred : View → Bool
-isBarred blanks = false
-isBarred (calls w) = false
-isBarred (names w) = false
-isBarred (opens c) = false
-isBarred (closes b) = false
-isBarred commas = false
-isBarred (bars n i) = true
-isBarred plain = false
-
 -- a pending token of the expansion of a usage in file i: of its list there, of a macro's text, or of a default; an argument's is
 -- tidied
 pub data Source (x : Context) (i : ℕ) : Pending → Type 0 where
   of-list : (p : ℕ) → Read x i p → isBarred (view (fileToken (fileOf x i) (tokenIn x i p))) ≡ false
       → Source x i (fileToken (fileOf x i) (tokenIn x i p))
-  of-text : {n w : List ℕ} {fs : List Parameter} (set : List ℕ) (t : Token) → Defined x (macro n fs w) → Among t (tokens inText w 0)
+  of-text : {n w : List ℕ} {fs : List Parameter} (set : List ℕ) (t : Token) → Defined x (macro n fs w) → In t (tokens inText w 0)
       → Source x i (textToken w set t)
   of-default : {n w f d : List ℕ} {fs : List Parameter} (set : List ℕ) (t : Token) → Defined x (macro n fs w)
-      → Among (parameter f (some d)) fs → Among t (tokens inFile d 0) → Source x i (textToken d set t)
+      → In (parameter f (some d)) fs → In t (tokens inFile d 0) → Source x i (textToken d set t)
   tidied : {p : Pending} → Source x i p → Source x i (cleaned p)
 
 -- a directive that is "copied as written", from its grave accent to its end

@@ -14,7 +14,7 @@ use Rattle.turns.specs.Acts.{Act, refuses, leaves, copies, skips, hides, branch
 use Rattle.turns.specs.Asking.{Asks}
 use Rattle.turns.specs.Usages.{usageEnd, expandHere}
 use Rattle.turns.specs.Turns.{hereAt, turnAt}
-use Rattle.claims.specs.Files.{fileOf}
+use Rattle.turns.specs.Files.{fileOf}
 
 -- up to where an act takes the file: a token, a directive, a usage with its list
 abbrev pub takenTo : Here → Act → ℕ

@@ -9,7 +9,7 @@ use Rattle.lex.proofs.Computing.{computing}
 use Rattle.keywords.specs.Keywords.{keywords, reservedIn, isReserved}
 use Rattle.names.specs.Names.{numberIn, macroDirectives, stateDirectives, otherDirectives, otherOf, stateOf, directiveOf, versionOf}
 use Rattle.directive.specs.Words.{wordAt}
-use Rattle.directive.specs.Forms.{versionForm, aloneValue, formAt}
+use Rattle.directive.specs.Forms.{entryForm, readAt, valueOf, formAt}
 use Rattle.conditions.proofs.Computing.{conditioning}
 use Rattle.storing.specs.Stored.{piece, pieces, trimLeft, trimRight, stored}
 use Rattle.afresh.specs.Judging.{badIn, badText}
@@ -22,7 +22,7 @@ use Rattle.classify.specs.Answer.{outcomeOf, refusedLine, answerOf}
 
 -- opens every definition that the examples compute
 unfoldable outcome : ℕ
-unfolding computing same keywords reservedIn isReserved numberIn macroDirectives stateDirectives otherDirectives otherOf stateOf directiveOf versionOf conditioning wordAt versionForm aloneValue formAt piece pieces trimLeft trimRight stored badIn badText extentIn extentAt barsOf gapIn gapEnd openAt headAt parametersOf badFormals definitionAt pastDirective pastGrave wordsFrom wordsOf outcomeOf newlines lineAt refusedLine
+unfolding computing same keywords reservedIn isReserved numberIn macroDirectives stateDirectives otherDirectives otherOf stateOf directiveOf versionOf conditioning wordAt entryForm readAt valueOf formAt piece pieces trimLeft trimRight stored badIn badText extentIn extentAt barsOf gapIn gapEnd openAt headAt parametersOf badFormals definitionAt pastDirective pastGrave wordsFrom wordsOf outcomeOf newlines lineAt refusedLine
 outcome = 0
 
 -- these words and no refusal

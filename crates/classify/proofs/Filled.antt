@@ -1,13 +1,11 @@
 -- Buffers made by a repeat, however long, and what is judged with them as bytes for brackets.
 -- Assumes nothing.
 use mathlib.Core.Path.{_≡_, sym}
-use mathlib.Core.List.{List}
 use mathlib.Core.Logic.{_⊎_, inl, inr, ⊎-elim}
 use Prim.Native.Nat.{ℕ, _*_, _<_}
 use native.Mathlib.Omega.{arith}
 use lib.ListN.{length, replicate, length-replicate}
-use Rattle.brackets.specs.Stacks.{Full}
-use Rattle.definition.specs.Answers.{Settled, full, over}
+use Rattle.brackets.specs.Stacks.{Full, Settled, full, over}
 use Rattle.definition.specs.declared.Judged.{Judged}
 
 -- a repeat has as many elements as it says
@@ -19,9 +17,9 @@ never n k h l (inl q) = omega (arith, length-replicate {A = ℕ} n 0)
 never n k h l (inr q) = omega arith
 
 -- bytes with room for more brackets than a text has bytes are enough
-pub enough : {s : List ℕ} {sh right r : Judged} (n : ℕ) → length s < 4 * n → length s < 18446744073709551615 → Settled s (replicate n 0) sh right r → r ≡ right
+pub enough : {k : ℕ} {sh right r : Judged} (n : ℕ) → k < 4 * n → k < 18446744073709551615 → Settled (replicate n 0) k sh right r → r ≡ right
 enough n h l (full e) = e
-enough {s} n h l (over e q) = absurd (never n (length s) h l q)
+enough {k} n h l (over e q) = absurd (never n k h l q)
 
 -- the tag of an answer that tells something is not that of `Short`
 pub other-tag : (t : ℕ) → (t ≡ 0) ⊎ (t ≡ 1) ⊎ (t ≡ 2) → t ≡ 3 → ⊥

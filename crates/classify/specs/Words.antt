@@ -10,10 +10,9 @@ use Rattle.lex.specs.declared.Token.{Token}
 use Rattle.keywords.specs.Keywords.{isReserved}
 use Rattle.names.specs.Names.{Define, Ifdef, Ifndef, Elsif, directiveOf}
 use Rattle.directive.specs.Forms.{formAt}
-use Rattle.directive.specs.declared.Value.{Value}
-use Rattle.directive.specs.declared.Value.the-variants as value
 use Rattle.directive.specs.declared.Form.{Form}
 use Rattle.directive.specs.declared.Form.the-variants as form
+use Rattle.settings.specs.Settings.{keywordsBy}
 use Rattle.definition.specs.Definitions.{Definition, barred, bad, good, definitionAt}
 use Rattle.conditions.specs.Grammar.{isDefined, conditionAt}
 use Rattle.conditions.specs.declared.Condition.{Condition}
@@ -21,22 +20,10 @@ use Rattle.conditions.specs.declared.Condition.the-variants.{Truth, Refused}
 use Rattle.classify.specs.declared.Past.{Past}
 use Rattle.classify.specs.declared.Past.the-variants.{On, Stop}
 
--- "The latest `begin_keywords` governs and `end_keywords` returns to the starting set" v₀, as does "Reset"
-abbrev pub setBy : Value → ℕ → ℕ → ℕ
-setBy value.Nothing v₀ v = v
-setBy (value.MacroName a e) v₀ v = v
-setBy (value.Times u p) v₀ v = v
-setBy (value.NetType n) v₀ v = v
-setBy (value.Cell n) v₀ v = v
-setBy (value.Drive n) v₀ v = v
-setBy (value.Version n) v₀ v = n
-setBy value.StartingSet v₀ v = v₀
-setBy value.Reset v₀ v = v₀
-
 -- "In classify a well-formed directive gives no words; of an ill-formed one, or any other grave accent name, only that
 -- token is skipped", which ends at e
 abbrev pub byForm : ℕ → ℕ → ℕ → Form → Past
-byForm v₀ v e (form.Formed x e′) = On e′ (setBy x v₀ v)
+byForm v₀ v e (form.Formed x e′) = On e′ (keywordsBy x v₀ v)
 byForm v₀ v e form.Unformed = On e v
 byForm v₀ v e (form.Barred n p) = Stop n p
 

@@ -8,14 +8,13 @@ ghost use Rattle.definition.specs.Definitions.{definitionAt};
 ghost use Rattle.definition.specs.Answers.{judgedOf};
 ghost use Rattle.keywords.specs.Tables.{Tables};
 ghost use Rattle.conditions.specs.Grammar.{isDefined, conditionAt};
-ghost use Rattle.classify.specs.Words.{setBy, byForm, byDefinition, byCondition, takesCondition, pastDirective, pastGrave, wordOf, bit, wordsOf};
+ghost use Rattle.classify.specs.Words.{byForm, byDefinition, byCondition, takesCondition, pastDirective, pastGrave, wordOf, bit, wordsOf};
 ghost use Rattle.classify.specs.Answer.{refusedLine, outcomeOf, Listed, Answered};
 use conditions::Condition;
 use conditions::condition_at;
 use definition::Judged;
 use definition::judge_definition;
 use directive::Form;
-use directive::Value;
 use directive::form_at;
 use keywords::BYTES;
 use keywords::FIRSTS;
@@ -32,6 +31,7 @@ use names::IFDEF;
 use names::IFNDEF;
 use names::directive_of;
 use places::line_at;
+use settings::keywords_after;
 use text::part_of;
 
 // The answer: the refusal's number, or 0; its line from 1 and its byte from 0, both 0 for refusal 1 and where nothing
@@ -57,29 +57,12 @@ pub struct Ended {
     pub words: usize,
 }
 
-// The keyword set in force behind a directive, `start` being the one at the start.
-fn set_after(v: Value, start: usize, set: usize) -> usize
-    ensures { λ r. ⌜ r ≡ setBy v start set ⌝ }
-{
-    match v {
-        Value::Nothing => set,
-        Value::MacroName(_, _) => set,
-        Value::Times(_, _) => set,
-        Value::NetType(_) => set,
-        Value::Cell(_) => set,
-        Value::Drive(_) => set,
-        Value::Version(n) => n,
-        Value::StartingSet => start,
-        Value::Reset => start,
-    }
-}
-
 // Past a directive by its form, where only its word, which ends at `at`, is skipped if it is ill-formed.
 fn past_form(f: Form, start: usize, set: usize, at: usize) -> Past
     ensures { λ r. ⌜ r ≡ byForm start set at f ⌝ }
 {
     match f {
-        Form::Formed(v, e) => Past::On(e, set_after(v, start, set)),
+        Form::Formed(v, e) => Past::On(e, keywords_after(v, start, set)),
         Form::Unformed => Past::On(at, set),
         Form::Barred(n, p) => Past::Stop(n, p),
     }

@@ -60,7 +60,7 @@ fn refuse(t: Token, place: usize) -> Condition
 }
 
 // Whether the bytes `a` and `b` stand at `at`.
-fn two_at(s: &[u8], at: usize, a: u8, b: u8) -> bool
+fn pair_at(s: &[u8], at: usize, a: u8, b: u8) -> bool
     requires { ⌜ (at ≤ length (now s)) × (0 < a) × (0 < b) ⌝ }
     ensures { λ r. ⌜ r ≡ begins (drop at (now (s .entry))) (a ∷ b ∷ []) ⌝ }
 {
@@ -71,14 +71,14 @@ fn two_at(s: &[u8], at: usize, a: u8, b: u8) -> bool
 }
 
 // Whether the bytes `a`, `b` and `c` stand at `at`.
-fn three_at(s: &[u8], at: usize, a: u8, b: u8, c: u8) -> bool
+fn triple_at(s: &[u8], at: usize, a: u8, b: u8, c: u8) -> bool
     requires { ⌜ (at ≤ length (now s)) × (0 < a) × (0 < b) × (0 < c) ⌝ }
     ensures { λ r. ⌜ r ≡ begins (drop at (now (s .entry))) (a ∷ b ∷ c ∷ []) ⌝ }
 {
     if peek(s, at) != a {
         return false;
     }
-    two_at(s, at + 1, b, c)
+    pair_at(s, at + 1, b, c)
 }
 
 // The name at `at`; `place`: where 7 is, if none stands there.
@@ -180,7 +180,7 @@ fn ands(
         match r {
             Condition::Truth(v, p) => {
                 all = all & v;
-                if !two_at(s, p, 38, 38) {
+                if !pair_at(s, p, 38, 38) {
                     return Condition::Truth(all, p);
                 }
                 i = next_token(s, p + 2);
@@ -212,7 +212,7 @@ fn ors(
         match r {
             Condition::Truth(v, p) => {
                 any = any | v;
-                if !two_at(s, p, 124, 124) {
+                if !pair_at(s, p, 124, 124) {
                     return Condition::Truth(any, p);
                 }
                 i = next_token(s, p + 2);
@@ -245,12 +245,12 @@ fn arrows(
         let r = ors(s, i, left, bytes, records, macros);
         match r {
             Condition::Truth(v, p) => {
-                if two_at(s, p, 45, 62) {
+                if pair_at(s, p, 45, 62) {
                     no = (v & no) | (!v & yes);
                     i = next_token(s, p + 2);
                     continue;
                 }
-                if three_at(s, p, 60, 45, 62) {
+                if triple_at(s, p, 60, 45, 62) {
                     let was = no;
                     no = (v & no) | (!v & yes);
                     yes = (v & yes) | (!v & was);

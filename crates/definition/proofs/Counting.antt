@@ -7,6 +7,8 @@ use mathlib.Core.Path.{_≡_, refl, sym, ap, _∙_}
 use native.Mathlib.Omega.{arith}
 use lib.ListN.{length}
 use borrow.Author.Tests.{not-true, not-false}
+use Rattle.brackets.specs.Stacks.{Settled, full, over}
+use Rattle.brackets.proofs.Settling.{full-lent, settled-full, settled-over}
 use Rattle.definition.specs.declared.Formal.{Formal}
 use Rattle.definition.specs.declared.FormalRead.{FormalRead}
 use Rattle.definition.specs.declared.FormalRead.the-variants as formal
@@ -15,8 +17,7 @@ use Rattle.definition.specs.declared.ListRead.{ListRead}
 use Rattle.definition.specs.declared.ListRead.the-variants as list
 use Rattle.definition.specs.Lists.{formalAt, Formals, ill, whole, also, formalsAt, behind}
 use Rattle.definition.specs.Definitions.{shapeBy}
-use Rattle.definition.specs.Answers.{Settled, full, over, listOf}
-use Rattle.definition.proofs.Settling.{full-lent, settled-full, settled-over}
+use Rattle.definition.specs.Answers.{listOf}
 use Rattle.definition.proofs.Formals.{formal-full, formal-inside, formals-ill, formals-out, formals-next, behind-last, behind-more}
 
 -- a list with n formals before it
@@ -46,14 +47,14 @@ counted-first s from work = record { same = refl; few = omega arith; rest = atop
 
 module _ {s lent work : List ℕ} {from i n : ℕ} (d : Counted s from lent work i n) where
   abbrev Listed : ListRead → Type 0
-  Listed r = Settled s lent list.Short (listOf (formalsAt s from)) r
+  Listed r = Settled lent (length s) list.Short (listOf (formalsAt s from)) r
 
   pub counted-out : length s ≤ i → Listed list.IllFormed
   unfolding atop
   counted-out h = full (sym (ap (atop n) (formals-out s i h)) ∙ d .rest)
 
   -- r: the formal at i, as the code reads it
-  module _ {r : FormalRead} (v : Settled s work formal.Short (formalAt s i) r) where
+  module _ {r : FormalRead} (v : Settled work (length s) formal.Short (formalAt s i) r) where
     told : (q : r ≡ formal.Short → ⊥) → formalAt s i ≡ r
     told q = sym (settled-full v q)
 

@@ -11,10 +11,11 @@ use borrow.Author.Tests.{eq-eqb, ne-eqb}
 use Rattle.lex.specs.declared.Mode.{Mode}
 use Rattle.lex.specs.declared.Token.{Token}
 use Rattle.lex.specs.Tokens.{inDefinition, Name, Newline, isByte, tokenAt, tokens}
-use Rattle.brackets.specs.Stacks.{stackOf, SteppedBy}
+use Rattle.brackets.specs.Stacks.{stackOf, SteppedBy, Settled, full, over}
 use Rattle.brackets.specs.declared.Stepped.{Stepped}
 use Rattle.brackets.specs.declared.Stepped.the-variants as stepped
 use Rattle.brackets.proofs.Stacking.{full-more, stepped-on, stepped-done, stepped-torn, stepped-short}
+use Rattle.brackets.proofs.Settling.{full-lent, settled-through}
 use Rattle.storing.proofs.Reading.{token-past}
 use Rattle.definition.specs.declared.Ending.{Ending}
 use Rattle.definition.specs.declared.Ending.the-variants as ending
@@ -22,8 +23,6 @@ use Rattle.definition.specs.declared.FormalRead.{FormalRead}
 use Rattle.definition.specs.declared.FormalRead.the-variants as formal
 use Rattle.definition.specs.Heads.{gapEnd, nextAt}
 use Rattle.definition.specs.Lists.{stepAt, defaultIn, defaultEnd, givenFormal, formalBy, formalAt}
-use Rattle.definition.specs.Answers.{Settled, full, over}
-use Rattle.definition.proofs.Settling.{full-lent, settled-through}
 use Rattle.definition.proofs.Reading.{default-out, default-newline, default-on, default-done, default-torn}
 
 -- the default that starts at `from` is read up to i, `depth` brackets are due, in bytes lent as `lent`
@@ -39,7 +38,7 @@ due-first s from work = record { same = refl; fits = omega arith; passed = omega
 
 module _ {s lent work : List ℕ} {from i depth : ℕ} (d : Due s from lent work i depth) where
   abbrev Told : Ending → Type 0
-  Told r = Settled s lent ending.Short (defaultEnd s from) r
+  Told r = Settled lent (length s) ending.Short (defaultEnd s from) r
 
   pub due-out : length s ≤ i → Told ending.Torn
   due-out h = full (sym (default-out s i (stackOf work depth) h) ∙ d .rest)
@@ -76,9 +75,9 @@ module _ {s lent work : List ℕ} {from i depth : ℕ} (d : Due s from lent work
           over refl (full-lent work lent (length s) (d .same) (full-more work depth (length s) p (omega arith)))
 
 -- the formal t, whose default starts at a, by the end r of that
-module _ (t : Token) (a : ℕ) {s work : List ℕ} {r : Ending} (d : Settled s work ending.Short (defaultEnd s a) r) where
+module _ (s : List ℕ) (t : Token) (a : ℕ) {work : List ℕ} {n : ℕ} {r : Ending} (d : Settled work n ending.Short (defaultEnd s a) r) where
   abbrev Given : FormalRead → Type 0
-  Given v = Settled s work formal.Short (givenFormal s t a (defaultEnd s a)) v
+  Given v = Settled work n formal.Short (givenFormal s t a (defaultEnd s a)) v
 
   pub given-upto : (e x b : ℕ) → r ≡ ending.Upto e x → b ≡ getD s e 0
       → Given (formal.Whole (record { from = t .from; end = t .end; given = true; first = a; stop = e; next = x; last = eqb b 41 }))

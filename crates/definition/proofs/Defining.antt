@@ -3,7 +3,7 @@
 use Prim.Native.Nat.{ℕ, _<_, _≤_}
 use mathlib.Core.Bool.{Bool, true, false, cond, _||_}
 use mathlib.Core.List.{List, []}
-use mathlib.Core.Path.{_≡_, refl, sym, ap, _∙_}
+use mathlib.Core.Path.{_≡_, refl, sym, ap, subst, _∙_}
 use native.Mathlib.Omega.{arith}
 use lib.Dec.{ltb}
 use lib.ListN.{length}
@@ -11,30 +11,36 @@ use borrow.Author.Tests.{eq-eqb, ne-eqb, lt-ltb, le-ltb}
 use Rattle.text.specs.Bytes.{part}
 use Rattle.lex.specs.declared.Fault.{Fault}
 use Rattle.names.specs.Names.{directiveOf, isDirective}
+use Rattle.brackets.specs.Stacks.{Full, Settled, full, over}
+use Rattle.brackets.proofs.Settling.{settled-as, settled-full, settled-over}
 use Rattle.storing.specs.Stored.{stored}
-use Rattle.brackets.specs.Stacks.{Full}
 use Rattle.afresh.specs.Judging.{badText}
 use Rattle.afresh.specs.Feeding.{verdictOf}
 use Rattle.afresh.specs.declared.Verdict.{Verdict}
 use Rattle.afresh.specs.declared.Verdict.the-variants as verdict
-use Rattle.definition.specs.Extents.{extentAt, barsOf}
+use Rattle.definition.specs.Extents.{extentAt, barsOf, Free}
 use Rattle.definition.specs.Heads.{headAt}
 use Rattle.definition.specs.Lists.{Formals, ill, whole, formalsAt}
 use Rattle.definition.specs.Definitions.{Definition, macro, bad, good, parametersOf, badFormals, isBad, shapeBy, textAt, judgedBy, definedBy, unlessBarred, definitionAt}
-use Rattle.definition.specs.Answers.{Settled, full, over, listOf, judgedOf}
+use Rattle.definition.specs.Answers.{listOf, judgedOf}
 use Rattle.definition.specs.declared.Extent.{Extent}
 use Rattle.definition.specs.declared.Head.{Head}
 use Rattle.definition.specs.declared.Formal.{Formal}
 use Rattle.definition.specs.declared.ListRead.{ListRead}
 use Rattle.definition.specs.declared.ListRead.the-variants as list
+use Rattle.definition.specs.declared.Judged.{Judged}
 use Rattle.definition.specs.declared.Judged.the-variants as judged
-use Rattle.definition.proofs.Settling.{settled-full, settled-over}
+use Rattle.definition.proofs.Onward.{head-free, unbarred-free}
 use Rattle.definition.proofs.Verdicts.{or-first, or-next, told-bad, told-good, told-short}
 
 -- the formals of a head that is whole
 whole-head : (w : Bool) (g : Formals) {fs : List Formal} {x : ℕ} → cond w g ill ≡ whole fs x → g ≡ whole fs x
 whole-head true g p = p
 whole-head false g p = absurd (let z : _≡_ {A = ℕ} 0 1 = cc in omega arith)
+
+is-whole : (w : Bool) (g : Formals) {fs : List Formal} {x : ℕ} → cond w g ill ≡ whole fs x → w ≡ true
+is-whole true g p = refl
+is-whole false g p = absurd (let z : _≡_ {A = ℕ} 0 1 = cc in omega arith)
 
 module _ (s : List ℕ) (h : Head) {fs : List Formal} {x : ℕ} (p : shapeBy s h ≡ whole fs x) where
   pub unlisted-none : h .listed ≡ false → fs ≡ []
@@ -61,14 +67,14 @@ list-full : (g : Formals) → listOf g ≡ list.Short → ⊥
 list-full ill e = let z : _≡_ {A = ℕ} 0 1 = cc in omega arith
 list-full (whole fs y) e = let z : _≡_ {A = ℕ} 0 1 = cc in omega arith
 
-module _ (g : Formals) {s o : List ℕ} {r : ListRead} (h : Settled s o list.Short (listOf g) r) where
+module _ (g : Formals) {o : List ℕ} {m : ℕ} {r : ListRead} (h : Settled o m list.Short (listOf g) r) where
   pub told-shape : {n x : ℕ} → r ≡ list.Whole n x → Shaped g n x
   told-shape {n} {x} e = list-shaped g n x (sym (settled-full h (λ q. let z : _≡_ {A = ℕ} 0 1 = cc in omega arith)) ∙ e)
 
   pub told-ill : r ≡ list.IllFormed → g ≡ ill
   told-ill e = list-ill g (sym (settled-full h (λ q. let z : _≡_ {A = ℕ} 0 1 = cc in omega arith)) ∙ e)
 
-  pub told-few : r ≡ list.Short → Full o (length s)
+  pub told-few : r ≡ list.Short → Full o m
   told-few e = settled-over h e (list-full g)
 
 -- the definition of a head that is whole, with its formals and its text from x to before e
@@ -108,16 +114,16 @@ module _ (s : List ℕ) (h : Head) (fs : List Formal) (x e : ℕ) where
   judged-by : Bool → Definition
   judged-by b = cond b (bad e) (good (macro named-so (parametersOf s fs) (stored s x e)) e)
 
-  module _ {o : List ℕ} {r : Verdict} (v : Settled s o verdict.Short (verdictOf judgement) r) where
-    pub judged-bad : r ≡ verdict.Bad → Settled s o judged.Short (judgedOf (judgedBy s h e (whole fs x))) (judged.Bad e)
+  module _ {o : List ℕ} {m : ℕ} {r : Verdict} (v : Settled o m verdict.Short (verdictOf judgement) r) where
+    pub judged-bad : r ≡ verdict.Bad → Settled o m judged.Short (judgedOf (judgedBy s h e (whole fs x))) (judged.Bad e)
     unfolding judged-by
     judged-bad q = full (ap (λ (b : Bool). judgedOf (judged-by b)) (sym (told-bad judgement v q)))
 
-    pub judged-good : r ≡ verdict.Good → Settled s o judged.Short (judgedOf (judgedBy s h e (whole fs x))) (judged.Good e)
+    pub judged-good : r ≡ verdict.Good → Settled o m judged.Short (judgedOf (judgedBy s h e (whole fs x))) (judged.Good e)
     unfolding judged-by
     judged-good q = full (ap (λ (b : Bool). judgedOf (judged-by b)) (sym (told-good judgement v q)))
 
-    pub judged-short : r ≡ verdict.Short → Settled s o judged.Short (judgedOf (judgedBy s h e (whole fs x))) judged.Short
+    pub judged-short : r ≡ verdict.Short → Settled o m judged.Short (judgedOf (judgedBy s h e (whole fs x))) judged.Short
     judged-short q = over refl (told-short judgement v q)
 
 -- the definition at i
@@ -135,3 +141,14 @@ module _ (s : List ℕ) (i : ℕ) {w : Extent} {h : Head} (p : w ≡ extentAt s 
 
     pub defined-judged : f .number ≡ 0 → definitionAt s i ≡ judgedBy s h (w .end) g
     defined-judged n = rw (by-bars, eq-eqb (f .number) 0 n)
+
+    -- nothing bars what stands behind its head
+    defined-free : f .number ≡ 0 → {fs : List Formal} {x : ℕ} → g ≡ whole fs x → Free s (h .next)
+    defined-free n z =
+        let b : barsOf (extentAt s i) (textAt s g) .number ≡ 0 = ap (λ (r : Fault). r .number) (sym (e ∙ ap (λ (v : Extent). barsOf v (textAt s g)) p)) ∙ n in
+        subst (λ (k : Head). k .whole ≡ true → Free s (k .next)) (sym q) (head-free s i (unbarred-free s i (textAt s g) b))
+        (is-whole (h .whole) (cond (h .listed) (formalsAt s (h .next)) (whole [] (h .next))) (k ∙ z))
+
+    pub defined-whole : f .number ≡ 0 → {fs : List Formal} {x : ℕ} → g ≡ whole fs x → {o : List ℕ} {m : ℕ} {r : Judged}
+        → (Free s (h .next) → Settled o m judged.Short (judgedOf (judgedBy s h (w .end) g)) r) → Settled o m judged.Short (judgedOf (definitionAt s i)) r
+    defined-whole n z v = settled-as (ap judgedOf (sym (defined-judged n))) (v (defined-free n z))

@@ -1,4 +1,3 @@
-pub mod Settling
 pub mod Formals
 pub mod Reading
 pub mod Defaults
@@ -7,5 +6,8 @@ pub mod Counting
 pub mod Verdicts
 pub mod Scanning
 pub mod Defining
+pub mod Seeing
+pub mod Onward
 pub mod Advance
 pub mod Computing
+pub mod Shielded

@@ -5,18 +5,18 @@ use mathlib.Core.Bool.{Bool, true, false, _||_}
 use mathlib.Core.List.{List}
 use mathlib.Core.Path.{_≡_, refl, sym, ap, _∙_}
 use native.Mathlib.Omega.{arith}
-use lib.ListN.{length}
-use Rattle.brackets.specs.Stacks.{Full}
+use Rattle.brackets.specs.Stacks.{Full, Settled, full}
+use Rattle.brackets.proofs.Settling.{settled-full, settled-over}
 use Rattle.storing.specs.Stored.{stored}
 use Rattle.storing.specs.Graves.{hasGrave}
-use Rattle.afresh.specs.Judging.{badDefault}
-use Rattle.afresh.specs.Feeding.{verdictOf, JudgedBy, full as judged-full, over as judged-over}
+use Rattle.afresh.specs.Unfit.{unfitDefault}
+use Rattle.afresh.specs.Feeding.{verdictOf}
 use Rattle.afresh.specs.declared.Verdict.{Verdict}
 use Rattle.afresh.specs.declared.Verdict.the-variants as verdict
 use Rattle.definition.specs.Definitions.{badFormal}
-use Rattle.definition.specs.Answers.{Settled, full, over}
+use Rattle.definition.specs.Answers.{FreeDefault}
 use Rattle.definition.specs.declared.Formal.{Formal}
-use Rattle.definition.proofs.Settling.{settled-full, settled-over}
+use Rattle.definition.proofs.Shielded.{default-more}
 
 -- the verdict on a test is not Short, and tells the test
 verdict-full : (b : Bool) → verdictOf b ≡ verdict.Short → ⊥
@@ -32,26 +32,22 @@ good-false true e = absurd (let z : _≡_ {A = ℕ} 0 1 = cc in omega arith)
 good-false false e = refl
 
 -- what an answer tells
-module _ (b : Bool) {s w : List ℕ} {r : Verdict} (h : Settled s w verdict.Short (verdictOf b) r) where
+module _ (b : Bool) {w : List ℕ} {n : ℕ} {r : Verdict} (h : Settled w n verdict.Short (verdictOf b) r) where
   pub told-bad : r ≡ verdict.Bad → b ≡ true
   told-bad e = bad-true b (sym (settled-full h (λ q. let z : _≡_ {A = ℕ} 0 1 = cc in omega arith)) ∙ e)
 
   pub told-good : r ≡ verdict.Good → b ≡ false
   told-good e = good-false b (sym (settled-full h (λ q. let z : _≡_ {A = ℕ} 0 1 = cc in omega arith)) ∙ e)
 
-  pub told-short : r ≡ verdict.Short → Full w (length s)
+  pub told-short : r ≡ verdict.Short → Full w n
   told-short e = settled-over h e (verdict-full b)
 
 -- an answer that is given
-module _ {s w : List ℕ} (b : Bool) where
-  pub settled-judged : {r : Verdict} → JudgedBy b w (length s) r → Settled s w verdict.Short (verdictOf b) r
-  settled-judged (judged-full e) = full e
-  settled-judged (judged-over e l) = over e l
-
-  pub settled-bad : b ≡ true → Settled s w verdict.Short (verdictOf b) verdict.Bad
+module _ {w : List ℕ} {n : ℕ} (b : Bool) where
+  pub settled-bad : b ≡ true → Settled w n verdict.Short (verdictOf b) verdict.Bad
   settled-bad e = full (ap verdictOf (sym e))
 
-  pub settled-good : b ≡ false → Settled s w verdict.Short (verdictOf b) verdict.Good
+  pub settled-good : b ≡ false → Settled w n verdict.Short (verdictOf b) verdict.Good
   settled-good e = full (ap verdictOf (sym e))
 
 -- a test that comes first, and what is left behind it
@@ -72,6 +68,6 @@ module _ (s : List ℕ) (f : Formal) where
     unfolding badFormal
     grave-formal q = rw (g, ← e, q)
 
-    pub stored-formal : b ≡ false → badFormal s f ≡ badDefault (stored s (f .first) (f .stop))
+    pub stored-formal : b ≡ false → FreeDefault s f → unfitDefault (stored s (f .first) (f .stop)) ≡ badFormal s f
     unfolding badFormal
-    stored-formal q = rw (g, ← e, q)
+    stored-formal q u = rw (g, ← e, q) (default-more s f u g (sym e ∙ q))

@@ -1,21 +1,23 @@
 -- The answers of the reader of definitions, against the definitions.
 -- Assumes nothing.
 use Prim.Native.Nat.{ℕ}
-use mathlib.Core.Path.{_≡_}
+use mathlib.Core.Bool.{true}
 use mathlib.Core.List.{List}
+use mathlib.Core.Path.{_≡_}
 use lib.ListN.{length}
-use Rattle.brackets.specs.Stacks.{Full}
-use Rattle.definition.specs.Lists.{Formals, ill, whole}
+use Rattle.definition.specs.Extents.{Free}
+use Rattle.definition.specs.Lists.{defaultEnd, Formals, ill, whole}
 use Rattle.definition.specs.Definitions.{Definition, barred, bad, good}
+use Rattle.definition.specs.declared.Ending.the-variants as ending
+use Rattle.definition.specs.declared.Formal.{Formal}
 use Rattle.definition.specs.declared.Judged.{Judged}
 use Rattle.definition.specs.declared.Judged.the-variants as judged
 use Rattle.definition.specs.declared.ListRead.{ListRead}
 use Rattle.definition.specs.declared.ListRead.the-variants as list
 
--- an answer r is the right one; or `short`, and then the lent bytes have no room for as many brackets as the text has bytes
-pub data Settled {A : Type 0} (s stack : List ℕ) (short right r : A) : Type 0 where
-  full : r ≡ right → Settled s stack short right r
-  over : r ≡ short → Full stack (length s) → Settled s stack short right r
+-- a formal's default is one as it is read, and nothing bars it
+abbrev pub FreeDefault : List ℕ → Formal → Type 0
+FreeDefault s f = f .given ≡ true → Free s (f .first) × (defaultEnd s (f .first) ≡ ending.Upto (f .stop) (f .next))
 
 abbrev pub listOf : Formals → ListRead
 listOf ill = list.IllFormed

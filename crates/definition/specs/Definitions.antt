@@ -37,7 +37,8 @@ unfoldable pub parametersOf : List ℕ → List Formal → List Parameter
 parametersOf s [] = []
 parametersOf s (f ∷ fs) = parameterOf s f ∷ parametersOf s fs
 
--- "default with a grave accent outside a string", or one that 2 to 6 would bar
+-- "default with a grave accent outside a string", or one that, stored, 2 to 6 would bar; "unmatched brackets" make the
+-- list ill-formed
 unfoldable pub badFormal : List ℕ → Formal → Bool
 badFormal s f =
     cond (f .given) (hasGrave s (f .first) (f .stop) || badDefault (stored s (f .first) (f .stop))) false

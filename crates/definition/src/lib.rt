@@ -6,16 +6,15 @@ ghost use lib.ListN.{length};
 ghost use Rattle.lex.specs.Faults.{noFault};
 ghost use Rattle.text.specs.Bytes.{part};
 ghost use Rattle.storing.specs.Stored.{stored};
-ghost use Rattle.brackets.specs.Stacks.{stackOf, SteppedBy};
+ghost use Rattle.brackets.specs.Stacks.{stackOf, SteppedBy, Settled};
 ghost use Rattle.afresh.specs.Judging.{badText};
 ghost use Rattle.afresh.specs.Feeding.{verdictOf};
-ghost use Rattle.definition.specs.Extents.{markOf, extentAt, barsOf};
-ghost use Rattle.definition.specs.Extents.{least as leastOf};
+ghost use Rattle.definition.specs.Extents.{markOf, extentAt, barsOf, Free};
 ghost use Rattle.definition.specs.Heads.{gapEnd, openAt, headAt};
 ghost use Rattle.definition.specs.Heads.{head as headOf};
 ghost use Rattle.definition.specs.Lists.{stepAt, defaultEnd, givenFormal, formalAt, formalsAt, behind, whole};
 ghost use Rattle.definition.specs.Definitions.{badFormal, named, badAmong, badFormals, isBad, shapeBy, judgedBy, definitionAt};
-ghost use Rattle.definition.specs.Answers.{Settled, listOf, judgedOf};
+ghost use Rattle.definition.specs.Answers.{FreeDefault, listOf, judgedOf};
 use afresh::Verdict;
 use brackets::Stepped;
 use brackets::step;
@@ -144,35 +143,19 @@ pub fn extent_at(s: &[u8], at: usize) -> Extent
     Extent { end: i, bars, mark }
 }
 
-// The smaller of two refusals, of equal ones the one further left.
-fn least(f: Fault, g: Fault) -> Fault
-    ensures { λ r. ⌜ r ≡ leastOf f g ⌝ }
-{
-    if g.number == 0 {
-        return f;
-    }
-    if f.number == 0 {
-        return g;
-    }
-    if g.number < f.number {
-        return g;
-    }
-    if f.number < g.number {
-        return f;
-    }
-    if g.place < f.place { g } else { f }
-}
-
-// What bars a definition whose macro text begins at `text`.
+// What bars a definition whose macro text begins at `text`, where a joiner or quote mark before it bars too.
 fn bars_of(w: Extent, text: usize) -> Fault
     ensures { λ r. ⌜ r ≡ barsOf w text ⌝ }
 {
     let mark = w.mark;
     let bars = w.bars;
-    if mark.place < text {
-        return least(bars, mark);
+    if text <= mark.place {
+        return bars;
     }
-    bars
+    if bars.place < mark.place {
+        return worse(bars, mark);
+    }
+    worse(mark, bars)
 }
 
 // Past the spacing from `at` on.
@@ -252,7 +235,7 @@ fn step_at(s: &[u8], t: Token, stack: &mut [u8], depth: usize) -> Stepped
 
 // Where the default that starts at `at` ends.
 fn default_end(s: &[u8], at: usize, stack: &mut [u8]) -> Ending
-    ensures { λ r. ⌜ Settled (now (s .entry)) (now (stack .entry)) Ending.Short (defaultEnd (now (s .entry)) at) r ⌝ }
+    ensures { λ r. ⌜ Settled (now (stack .entry)) (length (now (s .entry))) Ending.Short (defaultEnd (now (s .entry)) at) r ⌝ }
 {
     let mut i = at;
     let mut depth = 0;
@@ -284,7 +267,7 @@ fn default_end(s: &[u8], at: usize, stack: &mut [u8]) -> Ending
 
 // The formal `t`, whose default starts at `at`.
 fn given_formal(s: &[u8], t: Token, at: usize, stack: &mut [u8]) -> FormalRead
-    ensures { λ r. ⌜ Settled (now (s .entry)) (now (stack .entry)) FormalRead.Short (givenFormal (now (s .entry)) t at (defaultEnd (now (s .entry)) at)) r ⌝ }
+    ensures { λ r. ⌜ Settled (now (stack .entry)) (length (now (s .entry))) FormalRead.Short (givenFormal (now (s .entry)) t at (defaultEnd (now (s .entry)) at)) r ⌝ }
 {
     let r = default_end(s, at, stack);
     match r {
@@ -304,7 +287,7 @@ fn given_formal(s: &[u8], t: Token, at: usize, stack: &mut [u8]) -> FormalRead
 
 // The formal at `at`.
 pub fn formal_at(s: &[u8], at: usize, stack: &mut [u8]) -> FormalRead
-    ensures { λ r. ⌜ Settled (now (s .entry)) (now (stack .entry)) FormalRead.Short (formalAt (now (s .entry)) at) r ⌝ }
+    ensures { λ r. ⌜ Settled (now (stack .entry)) (length (now (s .entry))) FormalRead.Short (formalAt (now (s .entry)) at) r ⌝ }
 {
     let t = token_at(s, gap_end(s, at), in_definition(false));
     if t.kind != NAME {
@@ -331,7 +314,7 @@ pub fn formal_at(s: &[u8], at: usize, stack: &mut [u8]) -> FormalRead
 
 // The formal list from `at` on.
 pub fn list_at(s: &[u8], at: usize, stack: &mut [u8]) -> ListRead
-    ensures { λ r. ⌜ Settled (now (s .entry)) (now (stack .entry)) ListRead.Short (listOf (formalsAt (now (s .entry)) at)) r ⌝ }
+    ensures { λ r. ⌜ Settled (now (stack .entry)) (length (now (s .entry))) ListRead.Short (listOf (formalsAt (now (s .entry)) at)) r ⌝ }
 {
     let mut i = at;
     let mut n = 0;
@@ -359,7 +342,7 @@ pub fn list_at(s: &[u8], at: usize, stack: &mut [u8]) -> ListRead
 
 // Whether a formal of the list from `at` on has the name from `from` to before `end`.
 fn named_later(s: &[u8], from: usize, end: usize, at: usize, stack: &mut [u8]) -> Verdict
-    ensures { λ r. ⌜ ((fs : List Formal) (e : ℕ) → formalsAt (now (s .entry)) at ≡ whole fs e → Settled (now (s .entry)) (now (stack .entry)) Verdict.Short (verdictOf (named (now (s .entry)) (part (now (s .entry)) from end) fs)) r) ⌝ }
+    ensures { λ r. ⌜ ((fs : List Formal) (e : ℕ) → formalsAt (now (s .entry)) at ≡ whole fs e → Settled (now (stack .entry)) (length (now (s .entry))) Verdict.Short (verdictOf (named (now (s .entry)) (part (now (s .entry)) from end) fs)) r) ⌝ }
 {
     let mut i = at;
     while i < s.len() {
@@ -386,10 +369,10 @@ fn named_later(s: &[u8], from: usize, end: usize, at: usize, stack: &mut [u8]) -
     Verdict::Good
 }
 
-// Whether a formal's default is bad.
+// Whether the default of a formal that was read, which nothing bars, is bad.
 fn default_verdict(s: &[u8], f: Formal, name: &mut [u8], stack: &mut [u8]) -> Verdict
     requires { ⌜ 1025 ≤ length (now name) ⌝ }
-    ensures { λ r. ⌜ Settled (now (s .entry)) (now (stack .entry)) Verdict.Short (verdictOf (badFormal (now (s .entry)) f)) r ⌝ }
+    ensures { λ r. ⌜ (FreeDefault (now (s .entry)) f → Settled (now (stack .entry)) (length (now (s .entry))) Verdict.Short (verdictOf (badFormal (now (s .entry)) f)) r) ⌝ }
 {
     if !f.given {
         return Verdict::Good;
@@ -403,7 +386,7 @@ fn default_verdict(s: &[u8], f: Formal, name: &mut [u8], stack: &mut [u8]) -> Ve
 // Whether a formal is bad: its default, or one of those behind it has its name.
 fn formal_verdict(s: &[u8], f: Formal, name: &mut [u8], stack: &mut [u8]) -> Verdict
     requires { ⌜ 1025 ≤ length (now name) ⌝ }
-    ensures { λ r. ⌜ ((fs : List Formal) (e : ℕ) → behind (now (s .entry)) f ≡ whole fs e → Settled (now (s .entry)) (now (stack .entry)) Verdict.Short (verdictOf (badAmong (now (s .entry)) f fs)) r) ⌝ }
+    ensures { λ r. ⌜ ((fs : List Formal) (e : ℕ) → behind (now (s .entry)) f ≡ whole fs e → FreeDefault (now (s .entry)) f → Settled (now (stack .entry)) (length (now (s .entry))) Verdict.Short (verdictOf (badAmong (now (s .entry)) f fs)) r) ⌝ }
 {
     let v = default_verdict(s, f, name, stack);
     match v {
@@ -421,7 +404,7 @@ fn formal_verdict(s: &[u8], f: Formal, name: &mut [u8], stack: &mut [u8]) -> Ver
 // Whether a formal of the list from `at` on is bad.
 fn formals_verdict(s: &[u8], at: usize, name: &mut [u8], stack: &mut [u8]) -> Verdict
     requires { ⌜ 1025 ≤ length (now name) ⌝ }
-    ensures { λ r. ⌜ ((fs : List Formal) (e : ℕ) → formalsAt (now (s .entry)) at ≡ whole fs e → Settled (now (s .entry)) (now (stack .entry)) Verdict.Short (verdictOf (badFormals (now (s .entry)) fs)) r) ⌝ }
+    ensures { λ r. ⌜ ((fs : List Formal) (e : ℕ) → formalsAt (now (s .entry)) at ≡ whole fs e → Free (now (s .entry)) at → Settled (now (stack .entry)) (length (now (s .entry))) Verdict.Short (verdictOf (badFormals (now (s .entry)) fs)) r) ⌝ }
 {
     let mut i = at;
     while i < s.len() {
@@ -456,17 +439,17 @@ fn formals_verdict(s: &[u8], at: usize, name: &mut [u8], stack: &mut [u8]) -> Ve
     Verdict::Good
 }
 
-// Whether the macro text from `at` to before `end` is bad.
+// Whether the macro text from `at` to before `end`, which nothing bars, is bad.
 fn text_verdict(s: &[u8], at: usize, end: usize, name: &mut [u8], stack: &mut [u8]) -> Verdict
     requires { ⌜ 1025 ≤ length (now name) ⌝ }
-    ensures { λ r. ⌜ Settled (now (s .entry)) (now (stack .entry)) Verdict.Short (verdictOf (badText (stored (now (s .entry)) at end))) r ⌝ }
+    ensures { λ r. ⌜ (Free (now (s .entry)) at → Settled (now (stack .entry)) (length (now (s .entry))) Verdict.Short (verdictOf (badText (stored (now (s .entry)) at end))) r) ⌝ }
 {
     judge_stored(s, at, end, true, name, stack)
 }
 
 // The formals of a head and where the macro text begins.
 pub fn shape_of(s: &[u8], h: Head, stack: &mut [u8]) -> ListRead
-    ensures { λ r. ⌜ Settled (now (s .entry)) (now (stack .entry)) ListRead.Short (listOf (shapeBy (now (s .entry)) h)) r ⌝ }
+    ensures { λ r. ⌜ Settled (now (stack .entry)) (length (now (s .entry))) ListRead.Short (listOf (shapeBy (now (s .entry)) h)) r ⌝ }
 {
     if !h.whole {
         return ListRead::IllFormed;
@@ -480,7 +463,7 @@ pub fn shape_of(s: &[u8], h: Head, stack: &mut [u8]) -> ListRead
 // Whether the formals of a head are bad.
 fn head_verdict(s: &[u8], h: Head, name: &mut [u8], stack: &mut [u8]) -> Verdict
     requires { ⌜ 1025 ≤ length (now name) ⌝ }
-    ensures { λ r. ⌜ ((fs : List Formal) (x : ℕ) → shapeBy (now (s .entry)) h ≡ whole fs x → Settled (now (s .entry)) (now (stack .entry)) Verdict.Short (verdictOf (badFormals (now (s .entry)) fs)) r) ⌝ }
+    ensures { λ r. ⌜ ((fs : List Formal) (x : ℕ) → shapeBy (now (s .entry)) h ≡ whole fs x → Free (now (s .entry)) (h .next) → Settled (now (stack .entry)) (length (now (s .entry))) Verdict.Short (verdictOf (badFormals (now (s .entry)) fs)) r) ⌝ }
 {
     if !h.listed {
         return Verdict::Good;
@@ -499,7 +482,7 @@ fn verdict_of(
     stack: &mut [u8],
 ) -> Verdict
     requires { ⌜ 1025 ≤ length (now name) ⌝ }
-    ensures { λ r. ⌜ ((fs : List Formal) → shapeBy (now (s .entry)) h ≡ whole fs text → count ≡ length fs → Settled (now (s .entry)) (now (stack .entry)) Verdict.Short (verdictOf (isBad (now (s .entry)) (part (now (s .entry)) (h .from) (h .end)) fs (stored (now (s .entry)) text end))) r) ⌝ }
+    ensures { λ r. ⌜ ((fs : List Formal) → shapeBy (now (s .entry)) h ≡ whole fs text → count ≡ length fs → Free (now (s .entry)) (h .next) → Settled (now (stack .entry)) (length (now (s .entry))) Verdict.Short (verdictOf (isBad (now (s .entry)) (part (now (s .entry)) (h .from) (h .end)) fs (stored (now (s .entry)) text end))) r) ⌝ }
 {
     if 0 < directive_of(part_of(s, h.from, h.end)) {
         return Verdict::Bad;
@@ -526,7 +509,7 @@ fn judge_whole(
     stack: &mut [u8],
 ) -> Judged
     requires { ⌜ 1025 ≤ length (now name) ⌝ }
-    ensures { λ r. ⌜ ((fs : List Formal) → shapeBy (now (s .entry)) h ≡ whole fs text → count ≡ length fs → Settled (now (s .entry)) (now (stack .entry)) Judged.Short (judgedOf (judgedBy (now (s .entry)) h end (whole fs text))) r) ⌝ }
+    ensures { λ r. ⌜ ((fs : List Formal) → shapeBy (now (s .entry)) h ≡ whole fs text → count ≡ length fs → Free (now (s .entry)) (h .next) → Settled (now (stack .entry)) (length (now (s .entry))) Judged.Short (judgedOf (judgedBy (now (s .entry)) h end (whole fs text))) r) ⌝ }
 {
     let v = verdict_of(s, h, count, text, end, name, stack);
     match v {
@@ -539,7 +522,7 @@ fn judge_whole(
 // Judges the definition whose word ends at `at`, with bytes for a name, 1,025 of them, and for brackets, a quarter of the text's.
 pub fn judge_definition(s: &[u8], at: usize, name: &mut [u8], stack: &mut [u8]) -> Judged
     requires { ⌜ 1025 ≤ length (now name) ⌝ }
-    ensures { λ r. ⌜ Settled (now (s .entry)) (now (stack .entry)) Judged.Short (judgedOf (definitionAt (now (s .entry)) at)) r ⌝ }
+    ensures { λ r. ⌜ Settled (now (stack .entry)) (length (now (s .entry))) Judged.Short (judgedOf (definitionAt (now (s .entry)) at)) r ⌝ }
 {
     let w = extent_at(s, at);
     let h = head_at(s, at);

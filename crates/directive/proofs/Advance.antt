@@ -1,7 +1,7 @@
 -- A directive of its form ends no earlier than its word.
 -- Assumes nothing.
 use Prim.Native.Nat.{ℕ, suc, _+_, _<_, _≤_}
-use mathlib.Core.Bool.{Bool, cond, not, _&&_, _||_}
+use mathlib.Core.Bool.{Bool, not, _&&_, _||_}
 use mathlib.Core.List.{List, [], _∷_}
 use mathlib.Core.Path.{_≡_, subst}
 use native.Mathlib.Omega.{arith}
@@ -17,7 +17,7 @@ use Rattle.lex.specs.Tokens.{inFile, Newline, String, Name, Escaped, Number, is
 use Rattle.lex.proofs.Tests.{by-test}
 use Rattle.lex.proofs.Progress.{token-ends}
 use Rattle.lex.proofs.Listing.{by-tokens}
-use Rattle.names.specs.Names.{Undef, Include, Timescale, DefaultNettype, UnconnectedDrive, BeginKeywords, Unknown, unitOf, nettypeOf, driveOf, versionOf}
+use Rattle.names.specs.Names.{Undef, Include, Timescale, Unknown, unitOf}
 use Rattle.directive.specs.declared.Word.{Word}
 use Rattle.directive.specs.declared.Word.the-variants as word
 use Rattle.directive.specs.declared.Time.{Time}
@@ -28,12 +28,13 @@ use Rattle.directive.specs.declared.FileName.{FileName}
 use Rattle.directive.specs.declared.FileName.the-variants as file
 use Rattle.directive.specs.declared.IncludeLine.{IncludeLine}
 use Rattle.directive.specs.declared.Value.{Value}
-use Rattle.directive.specs.declared.Value.the-variants.{NetType, Drive, Version}
+use Rattle.directive.specs.declared.Read.{Read}
+use Rattle.directive.specs.declared.Read.the-variants.{Said, Unformed, Barred}
 use Rattle.directive.specs.declared.Form.{Form}
 use Rattle.directive.specs.declared.Form.the-variants as form
 use Rattle.directive.specs.Words.{wraps, wordStart, wordAt}
 use Rattle.directive.specs.Include.{rawFrom, rawEnd, behind, behindAt, angledBy, nameAt, includeIn, includeAt}
-use Rattle.directive.specs.Forms.{nameBy, nameForm, power, unitBy, unitAfter, magnitude, timeBy, timeAt, precisionBy, precisionForm, slashBy, slashForm, timescaleBy, timescaleForm, entry, nettypeBy, nettypeForm, driveBy, driveForm, versionBy, versionForm, namedBy, lineForm, includeForm, standsAlone, formAt}
+use Rattle.directive.specs.Forms.{undefBy, undefForm, power, unitBy, unitAfter, magnitude, timeBy, timeAt, precisionBy, precisionForm, slashBy, slashForm, timescaleBy, timescaleForm, takesEntry, entryKind, entryIn, entryBy, entryForm, namedBy, lineForm, includeForm, standsAlone, readAt, formBy, formAt}
 use Rattle.directive.proofs.Wording.{start-past, by-next}
 
 -- what is found, if anything, ends at i or later
@@ -54,6 +55,11 @@ RawPast i raw.Open = Unit {0}
 LinePast : ℕ → IncludeLine → Type 0
 LinePast i l = i ≤ l .end
 
+ReadPast : ℕ → Read → Type 0
+ReadPast i (Said a b e) = i ≤ e
+ReadPast i Unformed = Unit {0}
+ReadPast i (Barred n p) = Unit {0}
+
 FormPast : ℕ → Form → Type 0
 FormPast i (form.Formed v e) = i ≤ e
 FormPast i form.Unformed = Unit {0}
@@ -67,28 +73,28 @@ found-past s j i h =
     (λ l. omega (arith, start-past s j, token-ends inFile s (wordStart s j) l))
 
 module _ (i : ℕ) where
-  formed : (v : Value) (e : ℕ) → i ≤ e → FormPast i (form.Formed v e)
-  unfolding FormPast
-  formed v e h = h
+  said : (a b e : ℕ) → i ≤ e → ReadPast i (Said a b e)
+  unfolding ReadPast
+  said a b e h = h
 
-  unformed : FormPast i form.Unformed
-  unfolding FormPast
+  unformed : ReadPast i Unformed
+  unfolding ReadPast
   unformed = tt
 
-  form-barred : (n p : ℕ) → FormPast i (form.Barred n p)
-  unfolding FormPast
-  form-barred n p = tt
+  read-barred : (n p : ℕ) → ReadPast i (Barred n p)
+  unfolding ReadPast
+  read-barred n p = tt
 
   -- a form by the next word
-  module _ (by : Word → Form) (found : (t : Token) → i ≤ t .end → FormPast i (by (word.Found t)))
-      (missing : FormPast i (by word.Missing)) (barred : (n p : ℕ) → FormPast i (by (word.Barred n p))) where
-    by-word : (w : Word) → FoundPast i w → FormPast i (by w)
+  module _ (by : Word → Read) (found : (t : Token) → i ≤ t .end → ReadPast i (by (word.Found t)))
+      (missing : ReadPast i (by word.Missing)) (barred : (n p : ℕ) → ReadPast i (by (word.Barred n p))) where
+    by-word : (w : Word) → FoundPast i w → ReadPast i (by w)
     unfolding FoundPast
     by-word (word.Found t) h = found t h
     by-word word.Missing h = missing
     by-word (word.Barred n p) h = barred n p
 
-    next-word : (s : List ℕ) (j : ℕ) → i ≤ j → FormPast i (by (wordAt s j))
+    next-word : (s : List ℕ) (j : ℕ) → i ≤ j → ReadPast i (by (wordAt s j))
     next-word s j h = by-word (wordAt s j) (found-past s j i h)
 
   -- times
@@ -127,30 +133,30 @@ module _ (i : ℕ) where
   unfolding timeAt
   time-past s j h = time-by s (wordAt s j) (found-past s j i h)
 
-  precision-by : (u : ℕ) (t : Time) → TimePast i t → FormPast i (precisionBy u t)
+  precision-by : (u : ℕ) (t : Time) → TimePast i t → ReadPast i (precisionBy u t)
   unfolding TimePast
-  precision-by u (time.Power p e) h = by-test (FormPast i) (ltb u p) (λ q. unformed) (λ q. formed _ e h)
+  precision-by u (time.Power p e) h = by-test (ReadPast i) (ltb u p) (λ q. unformed) (λ q. said _ _ e h)
   precision-by u time.Unformed h = unformed
-  precision-by u (time.Barred b p) h = form-barred b p
+  precision-by u (time.Barred b p) h = read-barred b p
 
-  slash-found : (s : List ℕ) (u : ℕ) (t : Token) → i ≤ t .end → FormPast i (slashBy s u (word.Found t))
+  slash-found : (s : List ℕ) (u : ℕ) (t : Token) → i ≤ t .end → ReadPast i (slashBy s u (word.Found t))
   unfolding precisionForm
   slash-found s u t h =
-      by-test (FormPast i) (isByte s 47 t) (λ e. precision-by u (timeAt s (t .end)) (time-past s (t .end) h))
+      by-test (ReadPast i) (isByte s 47 t) (λ e. precision-by u (timeAt s (t .end)) (time-past s (t .end) h))
       (λ e. unformed)
 
-  timescale-by : (s : List ℕ) (t : Time) → TimePast i t → FormPast i (timescaleBy s t)
+  timescale-by : (s : List ℕ) (t : Time) → TimePast i t → ReadPast i (timescaleBy s t)
   unfolding TimePast slashForm
   timescale-by s (time.Power u e) h =
-      next-word (slashBy s u) (slash-found s u) unformed form-barred s e h
+      next-word (slashBy s u) (slash-found s u) unformed read-barred s e h
   timescale-by s time.Unformed h = unformed
-  timescale-by s (time.Barred b p) h = form-barred b p
+  timescale-by s (time.Barred b p) h = read-barred b p
 
-  -- an entry of a table, where the word is of its kind
-  entry-past : (b : Bool) (n : ℕ) (v : Value) (e : ℕ) → i ≤ e → FormPast i (cond b (entry n v e) form.Unformed)
-  entry-past b n v e h =
-      by-test (FormPast i) b (λ q. by-test (FormPast i) (eqb n Unknown) (λ q. unformed) (λ q. formed v e h))
-      (λ q. unformed)
+  -- a word of a table
+  entry-found : (d : ℕ) (s : List ℕ) (t : Token) → i ≤ t .end → ReadPast i (entryBy d s (word.Found t))
+  entry-found d s t h =
+      by-test (ReadPast i) (not (is (entryKind d) t)) (λ q. unformed)
+      (λ q. by-test (ReadPast i) (eqb (entryIn d (part s (t .at) (t .end))) Unknown) (λ q. unformed) (λ q. said _ _ (t .end) h))
 
   -- an include's line
   raw-past : (ok : Bool) (j : ℕ) (xs : List ℕ) → i ≤ j → RawPast i (rawFrom ok j xs)
@@ -197,33 +203,34 @@ module _ (i : ℕ) where
       (λ e. by-test (LinePast i) (not (isGap t)) (λ e. name-at s t f (omega arith))
       (λ e. r (worseOf f (faultOf t)) (omega arith))))) inFile i noFault (omega arith)
 
-  named-by : (n : FileName) (e : ℕ) → i ≤ e → FormPast i (namedBy n e)
+  named-by : (n : FileName) (e : ℕ) → i ≤ e → ReadPast i (namedBy n e)
   named-by file.Unnamed e h = unformed
-  named-by (file.Quoted a b) e h = formed _ e h
-  named-by (file.Angled a b) e h = formed _ e h
+  named-by (file.Quoted a b) e h = said _ _ e h
+  named-by (file.Angled a b) e h = said _ _ e h
 
-  line-past : (l : IncludeLine) → LinePast i l → FormPast i (lineForm l)
+  line-past : (l : IncludeLine) → LinePast i l → ReadPast i (lineForm l)
   unfolding LinePast
   line-past l h =
-      by-test (FormPast i) (eqb (l .bars .number) 0) (λ e. named-by (l .file) (l .end) h) (λ e. form-barred _ _)
+      by-test (ReadPast i) (eqb (l .bars .number) 0) (λ e. named-by (l .file) (l .end) h) (λ e. read-barred _ _)
 
-  at-past : (d : ℕ) (s : List ℕ) → FormPast i (formAt d s i)
-  unfolding formAt nameForm includeForm timescaleForm nettypeForm driveForm versionForm
+  at-past : (d : ℕ) (s : List ℕ) → ReadPast i (readAt d s i)
+  unfolding readAt undefForm includeForm timescaleForm entryForm
   at-past d s =
       let h : i ≤ i = omega arith in
-      by-test (FormPast i) (eqb d Undef)
-      (λ e. next-word nameBy (λ t h. by-test (FormPast i) (is Name t || is Escaped t) (λ q. formed _ (t .end) h) (λ q. unformed)) unformed form-barred s i h)
-      (λ e. by-test (FormPast i) (standsAlone d) (λ e. formed _ i h)
-      (λ e. by-test (FormPast i) (eqb d Include) (λ e. line-past (includeAt s i) (include-past s))
-      (λ e. by-test (FormPast i) (eqb d Timescale) (λ e. timescale-by s (timeAt s i) (time-past s i h))
-      (λ e. by-test (FormPast i) (eqb d DefaultNettype)
-      (λ e. next-word (nettypeBy s) (λ t. let n = nettypeOf (part s (t .at) (t .end)) in entry-past (is Name t) n (NetType n) (t .end)) unformed form-barred s i h)
-      (λ e. by-test (FormPast i) (eqb d UnconnectedDrive)
-      (λ e. next-word (driveBy s) (λ t. let n = driveOf (part s (t .at) (t .end)) in entry-past (is Name t) n (Drive n) (t .end)) unformed form-barred s i h)
-      (λ e. by-test (FormPast i) (eqb d BeginKeywords)
-      (λ e. next-word (versionBy s) (λ t. let n = versionOf (part s (t .at) (t .end)) in entry-past (is String t) n (Version n) (t .end)) unformed form-barred s i h)
-      (λ e. unformed)))))))
+      by-test (ReadPast i) (eqb d Undef)
+      (λ e. next-word undefBy (λ t h. by-test (ReadPast i) (is Name t || is Escaped t) (λ q. said _ _ (t .end) h) (λ q. unformed)) unformed read-barred s i h)
+      (λ e. by-test (ReadPast i) (standsAlone d) (λ e. said _ _ i h)
+      (λ e. by-test (ReadPast i) (eqb d Include) (λ e. line-past (includeAt s i) (include-past s))
+      (λ e. by-test (ReadPast i) (eqb d Timescale) (λ e. timescale-by s (timeAt s i) (time-past s i h))
+      (λ e. by-test (ReadPast i) (takesEntry d) (λ e. next-word (entryBy d s) (entry-found d s) unformed read-barred s i h)
+      (λ e. unformed)))))
+
+  form-by : (d : ℕ) (r : Read) → ReadPast i r → FormPast i (formBy d r)
+  unfolding ReadPast FormPast
+  form-by d (Said a b e) h = h
+  form-by d Unformed h = tt
+  form-by d (Barred n p) h = tt
 
 pub form-past : (d : ℕ) (s : List ℕ) (i e : ℕ) (v : Value) → formAt d s i ≡ form.Formed v e → i ≤ e
-unfolding FormPast
-form-past d s i e v q = subst (FormPast i) q (at-past i d s)
+unfolding formAt FormPast
+form-past d s i e v q = subst (FormPast i) q (form-by i d (readAt d s i) (at-past i d s))

@@ -2,3 +2,4 @@ pub mod Wording
 pub mod Including
 pub mod Timing
 pub mod Advance
+pub mod Undefining

@@ -19,18 +19,22 @@ use Rattle.directive.specs.declared.FileName.{FileName}
 use Rattle.directive.specs.declared.FileName.the-variants.{Unnamed, Quoted, Angled}
 use Rattle.directive.specs.declared.IncludeLine.{IncludeLine}
 use Rattle.directive.specs.declared.Value.{Value}
-use Rattle.directive.specs.declared.Value.the-variants.{Nothing, MacroName, Times, NetType, Cell, Drive, Version, StartingSet, Reset}
+use Rattle.directive.specs.declared.Value.the-variants.{Nothing, Times, NetType, Cell, Drive, Version, StartingSet, Reset}
+use Rattle.directive.specs.declared.Read.{Read}
+use Rattle.directive.specs.declared.Read.the-variants.{Said, Unformed, Barred}
+use Rattle.directive.specs.declared.MacroName.{MacroName}
+use Rattle.directive.specs.declared.MacroName.the-variants as name
 use Rattle.directive.specs.declared.Form.{Form}
-use Rattle.directive.specs.declared.Form.the-variants.{Formed, Unformed, Barred}
+use Rattle.directive.specs.declared.Form.the-variants as form
 
--- `undef`: a plain or escaped name
-abbrev pub nameBy : Word → Form
-nameBy (word.Found t) = cond (is Name t || is Escaped t) (Formed (MacroName (t .from) (t .end)) (t .end)) Unformed
-nameBy word.Missing = Unformed
-nameBy (word.Barred n p) = Barred n p
+-- `undef`: a plain or escaped name, from and end without `\`
+abbrev pub undefBy : Word → Read
+undefBy (word.Found t) = cond (is Name t || is Escaped t) (Said (t .from) (t .end) (t .end)) Unformed
+undefBy word.Missing = Unformed
+undefBy (word.Barred n p) = Barred n p
 
-unfoldable pub nameForm : List ℕ → ℕ → Form
-nameForm s i = nameBy (wordAt s i)
+unfoldable pub undefForm : List ℕ → ℕ → Read
+undefForm s i = undefBy (wordAt s i)
 
 -- a time that ends at e: ten to the n, of the unit w
 abbrev pub power : List ℕ → ℕ → ℕ → Time
@@ -65,75 +69,64 @@ unfoldable pub timeAt : List ℕ → ℕ → Time
 timeAt s i = timeBy s (wordAt s i)
 
 -- "precision not coarser than unit"
-abbrev pub precisionBy : ℕ → Time → Form
-precisionBy u (time.Power p e) = cond (ltb u p) Unformed (Formed (Times u p) e)
+abbrev pub precisionBy : ℕ → Time → Read
+precisionBy u (time.Power p e) = cond (ltb u p) Unformed (Said u p e)
 precisionBy u time.Unformed = Unformed
 precisionBy u (time.Barred b p) = Barred b p
 
-unfoldable pub precisionForm : List ℕ → ℕ → ℕ → Form
+unfoldable pub precisionForm : List ℕ → ℕ → ℕ → Read
 precisionForm s u i = precisionBy u (timeAt s i)
 
-abbrev pub slashBy : List ℕ → ℕ → Word → Form
+abbrev pub slashBy : List ℕ → ℕ → Word → Read
 slashBy s u (word.Found t) = cond (isByte s 47 t) (precisionForm s u (t .end)) Unformed
 slashBy s u word.Missing = Unformed
 slashBy s u (word.Barred b p) = Barred b p
 
-unfoldable pub slashForm : List ℕ → ℕ → ℕ → Form
+unfoldable pub slashForm : List ℕ → ℕ → ℕ → Read
 slashForm s u i = slashBy s u (wordAt s i)
 
-abbrev pub timescaleBy : List ℕ → Time → Form
+abbrev pub timescaleBy : List ℕ → Time → Read
 timescaleBy s (time.Power u e) = slashForm s u e
 timescaleBy s time.Unformed = Unformed
 timescaleBy s (time.Barred b p) = Barred b p
 
-unfoldable pub timescaleForm : List ℕ → ℕ → Form
+unfoldable pub timescaleForm : List ℕ → ℕ → Read
 timescaleForm s i = timescaleBy s (timeAt s i)
 
--- a number of a table as what a directive that ends at e says
-abbrev pub entry : ℕ → Value → ℕ → Form
-entry n v e = cond (eqb n Unknown) Unformed (Formed v e)
+-- directives with one word of a table: a net type, a drive, a version
+abbrev pub takesEntry : ℕ → Bool
+takesEntry d = eqb d DefaultNettype || (eqb d UnconnectedDrive || eqb d BeginKeywords)
 
--- one word of a table: a net type, a drive, a version
-abbrev pub nettypeBy : List ℕ → Word → Form
-nettypeBy s (word.Found t) =
-    cond (is Name t) (entry (nettypeOf (part s (t .at) (t .end))) (NetType (nettypeOf (part s (t .at) (t .end)))) (t .end))
-    Unformed
-nettypeBy s word.Missing = Unformed
-nettypeBy s (word.Barred n p) = Barred n p
+-- .. of which kind the word is, and its number in the table
+abbrev pub entryKind : ℕ → ℕ
+entryKind d = cond (eqb d BeginKeywords) String Name
 
-unfoldable pub nettypeForm : List ℕ → ℕ → Form
-nettypeForm s i = nettypeBy s (wordAt s i)
+abbrev pub entryIn : ℕ → List ℕ → ℕ
+entryIn d w = cond (eqb d DefaultNettype) (nettypeOf w) (cond (eqb d UnconnectedDrive) (driveOf w) (versionOf w))
 
-abbrev pub driveBy : List ℕ → Word → Form
-driveBy s (word.Found t) =
-    cond (is Name t) (entry (driveOf (part s (t .at) (t .end))) (Drive (driveOf (part s (t .at) (t .end)))) (t .end)) Unformed
-driveBy s word.Missing = Unformed
-driveBy s (word.Barred n p) = Barred n p
+abbrev pub entryBy : ℕ → List ℕ → Word → Read
+entryBy d s (word.Found t) =
+    let n = entryIn d (part s (t .at) (t .end)) in
+    cond (not (is (entryKind d) t)) Unformed
+    (cond (eqb n Unknown) Unformed
+    (Said n 0 (t .end)))
+entryBy d s word.Missing = Unformed
+entryBy d s (word.Barred n p) = Barred n p
 
-unfoldable pub driveForm : List ℕ → ℕ → Form
-driveForm s i = driveBy s (wordAt s i)
+unfoldable pub entryForm : ℕ → List ℕ → ℕ → Read
+entryForm d s i = entryBy d s (wordAt s i)
 
-abbrev pub versionBy : List ℕ → Word → Form
-versionBy s (word.Found t) =
-    cond (is String t)
-    (entry (versionOf (part s (t .at) (t .end))) (Version (versionOf (part s (t .at) (t .end)))) (t .end)) Unformed
-versionBy s word.Missing = Unformed
-versionBy s (word.Barred n p) = Barred n p
-
-unfoldable pub versionForm : List ℕ → ℕ → Form
-versionForm s i = versionBy s (wordAt s i)
-
-abbrev pub namedBy : FileName → ℕ → Form
+abbrev pub namedBy : FileName → ℕ → Read
 namedBy Unnamed e = Unformed
-namedBy (Quoted a b) e = Formed Nothing e
-namedBy (Angled a b) e = Formed Nothing e
+namedBy (Quoted a b) e = Said 0 0 e
+namedBy (Angled a b) e = Said 0 0 e
 
-abbrev pub lineForm : IncludeLine → Form
+abbrev pub lineForm : IncludeLine → Read
 lineForm l =
     cond (eqb (l .bars .number) 0) (namedBy (l .file) (l .end))
     (Barred (l .bars .number) (l .bars .place))
 
-unfoldable pub includeForm : List ℕ → ℕ → Form
+unfoldable pub includeForm : List ℕ → ℕ → Read
 includeForm s i = lineForm (includeAt s i)
 
 -- directives of the one word alone
@@ -142,24 +135,44 @@ standsAlone d =
     eqb d FileWord || (eqb d LineWord || (eqb d UndefineAll || (eqb d Else || (eqb d Endif || (eqb d Resetall ||
     (eqb d Celldefine || (eqb d EndCelldefine || (eqb d NoUnconnectedDrive || eqb d EndKeywords))))))))
 
--- what a directive of one word says: "their ends", `end_keywords` "returns to the starting set", reset
-unfoldable pub aloneValue : ℕ → Value
-aloneValue d =
+-- the directive d whose word ends at i; definitions and conditions have their own forms, and what is left out has none
+unfoldable pub readAt : ℕ → List ℕ → ℕ → Read
+readAt d s i =
+    cond (eqb d Undef) (undefForm s i)
+    (cond (standsAlone d) (Said 0 0 i)
+    (cond (eqb d Include) (includeForm s i)
+    (cond (eqb d Timescale) (timescaleForm s i)
+    (cond (takesEntry d) (entryForm d s i)
+    Unformed))))
+
+-- what a directive says, by its numbers: "their ends", `end_keywords` "returns to the starting set", reset
+unfoldable pub valueOf : ℕ → ℕ → ℕ → Value
+valueOf d a b =
     cond (eqb d Resetall) Reset
     (cond (eqb d Celldefine) (Cell 1)
     (cond (eqb d EndCelldefine) (Cell 0)
     (cond (eqb d NoUnconnectedDrive) (Drive 0)
     (cond (eqb d EndKeywords) StartingSet
-    Nothing))))
+    (cond (eqb d Timescale) (Times a b)
+    (cond (eqb d DefaultNettype) (NetType a)
+    (cond (eqb d UnconnectedDrive) (Drive a)
+    (cond (eqb d BeginKeywords) (Version a)
+    Nothing))))))))
 
--- the form of the directive d whose word ends at i; definitions and conditions have their own, and what is left out has none
+abbrev pub formBy : ℕ → Read → Form
+formBy d (Said a b e) = form.Formed (valueOf d a b) e
+formBy d Unformed = form.Unformed
+formBy d (Barred n p) = form.Barred n p
+
+-- the form of the directive d whose word ends at i
 unfoldable pub formAt : ℕ → List ℕ → ℕ → Form
-formAt d s i =
-    cond (eqb d Undef) (nameForm s i)
-    (cond (standsAlone d) (Formed (aloneValue d) i)
-    (cond (eqb d Include) (includeForm s i)
-    (cond (eqb d Timescale) (timescaleForm s i)
-    (cond (eqb d DefaultNettype) (nettypeForm s i)
-    (cond (eqb d UnconnectedDrive) (driveForm s i)
-    (cond (eqb d BeginKeywords) (versionForm s i)
-    Unformed))))))
+formAt d s i = formBy d (readAt d s i)
+
+abbrev pub nameBy : Read → MacroName
+nameBy (Said a b e) = name.Named a b
+nameBy Unformed = name.Unnamed
+nameBy (Barred n p) = name.Barred n p
+
+-- the name behind the `undef` whose word ends at i
+unfoldable pub undefAt : List ℕ → ℕ → MacroName
+undefAt s i = nameBy (readAt Undef s i)

@@ -5,7 +5,7 @@ ghost use lib.ListN.{length};
 ghost use Rattle.directive.specs.Words.{isBetween, wordStart, wordAt};
 ghost use Rattle.directive.specs.Include.{rawEnd, behindAt, nameAt, includeAt};
 ghost use Rattle.directive.specs.Include.{line as includeLine};
-ghost use Rattle.directive.specs.Forms.{nameForm, unitAfter, magnitude, timeAt, precisionForm, slashForm, timescaleForm, nettypeForm, driveForm, versionForm, includeForm, standsAlone, aloneValue, formAt, entry};
+ghost use Rattle.directive.specs.Forms.{undefForm, unitAfter, magnitude, timeAt, precisionForm, slashForm, timescaleForm, takesEntry, entryKind, entryIn, entryForm, includeForm, standsAlone, readAt, valueOf, formAt, undefAt};
 ghost use Rattle.directive.specs.Forms.{power as powerOf};
 use lex::BLOCK_COMMENT;
 use lex::END;
@@ -60,8 +60,6 @@ pub enum Word {
 // What a directive says.
 pub enum Value {
     Nothing,
-    // a macro's name, without `\`: from, end
-    MacroName(usize, usize),
     // time unit and precision as powers of ten, 1 fs is 0
     Times(usize, usize),
     NetType(usize),
@@ -77,10 +75,26 @@ pub enum Value {
     Reset,
 }
 
+// A directive of its form, as read: two numbers that it says, 0 where it says none, and its end; an ill-formed one; or a token
+// of it that 2 to 6 bar, with its place.
+pub enum Read {
+    Said(usize, usize, usize),
+    Unformed,
+    Barred(usize, usize),
+}
+
 // A directive of its form, with its end; an ill-formed one; or a token of it that 2 to 6 bar, with its place.
 pub enum Form {
     Formed(Value, usize),
     Unformed,
+    Barred(usize, usize),
+}
+
+// The name behind `undef`: from, end, without `\`, its end being the directive's; none; or a token that 2 to 6 bar, with its
+// place.
+pub enum MacroName {
+    Named(usize, usize),
+    Unnamed,
     Barred(usize, usize),
 }
 
@@ -156,19 +170,20 @@ pub fn word_at(s: &[u8], at: usize) -> Word
     Word::Found(t)
 }
 
-fn name_form(s: &[u8], at: usize) -> Form
-    ensures { λ r. ⌜ r ≡ nameForm (now (s .entry)) at ⌝ }
+// The name behind an `undef`, without `\`: from, end.
+fn undef_form(s: &[u8], at: usize) -> Read
+    ensures { λ r. ⌜ r ≡ undefForm (now (s .entry)) at ⌝ }
 {
     let w = word_at(s, at);
     match w {
         Word::Found(t) => {
             if (t.kind == NAME) | (t.kind == ESCAPED) {
-                return Form::Formed(Value::MacroName(t.from, t.end), t.end);
+                return Read::Said(t.from, t.end, t.end);
             }
-            Form::Unformed
+            Read::Unformed
         }
-        Word::Missing => Form::Unformed,
-        Word::Barred(n, p) => Form::Barred(n, p),
+        Word::Missing => Read::Unformed,
+        Word::Barred(n, p) => Read::Barred(n, p),
     }
 }
 
@@ -236,24 +251,24 @@ fn time_at(s: &[u8], at: usize) -> Time
     }
 }
 
-fn precision_form(s: &[u8], unit: usize, at: usize) -> Form
+fn precision_form(s: &[u8], unit: usize, at: usize) -> Read
     ensures { λ r. ⌜ r ≡ precisionForm (now (s .entry)) unit at ⌝ }
 {
     let time = time_at(s, at);
     match time {
         Time::Power(p, e) => {
             if unit < p {
-                return Form::Unformed;
+                return Read::Unformed;
             }
-            Form::Formed(Value::Times(unit, p), e)
+            Read::Said(unit, p, e)
         }
-        Time::Unformed => Form::Unformed,
-        Time::Barred(b, p) => Form::Barred(b, p),
+        Time::Unformed => Read::Unformed,
+        Time::Barred(b, p) => Read::Barred(b, p),
     }
 }
 
 // The `/` and the precision behind the unit.
-fn slash_form(s: &[u8], unit: usize, at: usize) -> Form
+fn slash_form(s: &[u8], unit: usize, at: usize) -> Read
     ensures { λ r. ⌜ r ≡ slashForm (now (s .entry)) unit at ⌝ }
 {
     let w = word_at(s, at);
@@ -262,82 +277,71 @@ fn slash_form(s: &[u8], unit: usize, at: usize) -> Form
             if is_byte(s, t, 47) {
                 return precision_form(s, unit, t.end);
             }
-            Form::Unformed
+            Read::Unformed
         }
-        Word::Missing => Form::Unformed,
-        Word::Barred(b, p) => Form::Barred(b, p),
+        Word::Missing => Read::Unformed,
+        Word::Barred(b, p) => Read::Barred(b, p),
     }
 }
 
-fn timescale_form(s: &[u8], at: usize) -> Form
+fn timescale_form(s: &[u8], at: usize) -> Read
     ensures { λ r. ⌜ r ≡ timescaleForm (now (s .entry)) at ⌝ }
 {
     let time = time_at(s, at);
     match time {
         Time::Power(u, e) => slash_form(s, u, e),
-        Time::Unformed => Form::Unformed,
-        Time::Barred(b, p) => Form::Barred(b, p),
+        Time::Unformed => Read::Unformed,
+        Time::Barred(b, p) => Read::Barred(b, p),
     }
 }
 
-// What a word of a table says, or ill-formed where it is none of them.
-fn table_entry(n: usize, v: Value, end: usize) -> Form
-    ensures { λ r. ⌜ r ≡ entry n v end ⌝ }
+// Whether `d` is a directive with one word of a table.
+fn takes_entry(d: usize) -> bool
+    ensures { λ r. ⌜ r ≡ takesEntry d ⌝ }
 {
-    if n == UNKNOWN {
-        return Form::Unformed;
-    }
-    Form::Formed(v, end)
+    (d == DEFAULT_NETTYPE) | ((d == UNCONNECTED_DRIVE) | (d == BEGIN_KEYWORDS))
 }
 
-fn nettype_form(s: &[u8], at: usize) -> Form
-    ensures { λ r. ⌜ r ≡ nettypeForm (now (s .entry)) at ⌝ }
+// Of which kind its word is.
+fn entry_kind(d: usize) -> usize
+    ensures { λ r. ⌜ r ≡ entryKind d ⌝ }
 {
-    let w = word_at(s, at);
-    match w {
-        Word::Found(t) => {
-            if t.kind == NAME {
-                let n = nettype_of(part_of(s, t.at, t.end));
-                return table_entry(n, Value::NetType(n), t.end);
-            }
-            Form::Unformed
-        }
-        Word::Missing => Form::Unformed,
-        Word::Barred(n, p) => Form::Barred(n, p),
+    if d == BEGIN_KEYWORDS {
+        return STRING;
     }
+    NAME
 }
 
-fn drive_form(s: &[u8], at: usize) -> Form
-    ensures { λ r. ⌜ r ≡ driveForm (now (s .entry)) at ⌝ }
+// The number of the word `w` in its table.
+fn entry_in(d: usize, w: &[u8]) -> usize
+    ensures { λ r. ⌜ r ≡ entryIn d (now (w .entry)) ⌝ }
 {
-    let w = word_at(s, at);
-    match w {
-        Word::Found(t) => {
-            if t.kind == NAME {
-                let n = drive_of(part_of(s, t.at, t.end));
-                return table_entry(n, Value::Drive(n), t.end);
-            }
-            Form::Unformed
-        }
-        Word::Missing => Form::Unformed,
-        Word::Barred(n, p) => Form::Barred(n, p),
+    if d == DEFAULT_NETTYPE {
+        return nettype_of(w);
     }
+    if d == UNCONNECTED_DRIVE {
+        return drive_of(w);
+    }
+    version_of(w)
 }
 
-fn version_form(s: &[u8], at: usize) -> Form
-    ensures { λ r. ⌜ r ≡ versionForm (now (s .entry)) at ⌝ }
+fn entry_form(d: usize, s: &[u8], at: usize) -> Read
+    ensures { λ r. ⌜ r ≡ entryForm d (now (s .entry)) at ⌝ }
 {
     let w = word_at(s, at);
     match w {
         Word::Found(t) => {
-            if t.kind == STRING {
-                let n = version_of(part_of(s, t.at, t.end));
-                return table_entry(n, Value::Version(n), t.end);
+            if t.kind != entry_kind(d) {
+                return Read::Unformed;
             }
-            Form::Unformed
+            let n = entry_in(d, part_of(s, t.at, t.end));
+            if n == UNKNOWN {
+                return Read::Unformed;
+            }
+            Read::Said(n, 0, t.end)
         }
-        Word::Missing => Form::Unformed,
-        Word::Barred(n, p) => Form::Barred(n, p),
+        Word::Missing => Read::Unformed,
+        Word::Barred(n, p) => Read::Barred(n, p),
     }
 }
 
@@ -456,19 +460,19 @@ pub fn include_at(s: &[u8], at: usize) -> IncludeLine
     make_line(bars, FileName::Unnamed, at, false)
 }
 
-fn include_form(s: &[u8], at: usize) -> Form
+fn include_form(s: &[u8], at: usize) -> Read
     ensures { λ r. ⌜ r ≡ includeForm (now (s .entry)) at ⌝ }
 {
     let l = include_at(s, at);
     let bars = l.bars;
     if bars.number != 0 {
-        return Form::Barred(bars.number, bars.place);
+        return Read::Barred(bars.number, bars.place);
     }
     let file = l.file;
     match file {
-        FileName::Unnamed => Form::Unformed,
-        FileName::Quoted(_, _) => Form::Formed(Value::Nothing, l.end),
-        FileName::Angled(_, _) => Form::Formed(Value::Nothing, l.end),
+        FileName::Unnamed => Read::Unformed,
+        FileName::Quoted(_, _) => Read::Said(0, 0, l.end),
+        FileName::Angled(_, _) => Read::Said(0, 0, l.end),
     }
 }
 
@@ -486,9 +490,9 @@ fn stands_alone(d: usize) -> bool
                                     | ((d == NO_UNCONNECTED_DRIVE) | (d == END_KEYWORDS)))))))))
 }
 
-// What a directive of one word says.
-fn alone_value(d: usize) -> Value
-    ensures { λ r. ⌜ r ≡ aloneValue d ⌝ }
+// What a directive says, by its numbers.
+fn value_of(d: usize, a: usize, b: usize) -> Value
+    ensures { λ r. ⌜ r ≡ valueOf d a b ⌝ }
 {
     if d == RESETALL {
         return Value::Reset;
@@ -505,18 +509,30 @@ fn alone_value(d: usize) -> Value
     if d == END_KEYWORDS {
         return Value::StartingSet;
     }
+    if d == TIMESCALE {
+        return Value::Times(a, b);
+    }
+    if d == DEFAULT_NETTYPE {
+        return Value::NetType(a);
+    }
+    if d == UNCONNECTED_DRIVE {
+        return Value::Drive(a);
+    }
+    if d == BEGIN_KEYWORDS {
+        return Value::Version(a);
+    }
     Value::Nothing
 }
 
-// The form of the directive `d`, whose word ends at `at`; definitions and conditions have their own.
-pub fn form_at(d: usize, s: &[u8], at: usize) -> Form
-    ensures { λ r. ⌜ r ≡ formAt d (now (s .entry)) at ⌝ }
+// The directive `d`, whose word ends at `at`; definitions and conditions have their own forms.
+fn read_at(d: usize, s: &[u8], at: usize) -> Read
+    ensures { λ r. ⌜ r ≡ readAt d (now (s .entry)) at ⌝ }
 {
     if d == UNDEF {
-        return name_form(s, at);
+        return undef_form(s, at);
     }
     if stands_alone(d) {
-        return Form::Formed(alone_value(d), at);
+        return Read::Said(0, 0, at);
     }
     if d == INCLUDE {
         return include_form(s, at);
@@ -524,14 +540,32 @@ pub fn form_at(d: usize, s: &[u8], at: usize) -> Form
     if d == TIMESCALE {
         return timescale_form(s, at);
     }
-    if d == DEFAULT_NETTYPE {
-        return nettype_form(s, at);
+    if takes_entry(d) {
+        return entry_form(d, s, at);
     }
-    if d == UNCONNECTED_DRIVE {
-        return drive_form(s, at);
+    Read::Unformed
+}
+
+// The form of the directive `d`, whose word ends at `at`.
+pub fn form_at(d: usize, s: &[u8], at: usize) -> Form
+    ensures { λ r. ⌜ r ≡ formAt d (now (s .entry)) at ⌝ }
+{
+    let w = read_at(d, s, at);
+    match w {
+        Read::Said(a, b, e) => Form::Formed(value_of(d, a, b), e),
+        Read::Unformed => Form::Unformed,
+        Read::Barred(n, p) => Form::Barred(n, p),
     }
-    if d == BEGIN_KEYWORDS {
-        return version_form(s, at);
+}
+
+// The name behind the `undef` whose word ends at `at`.
+pub fn undef_at(s: &[u8], at: usize) -> MacroName
+    ensures { λ r. ⌜ r ≡ undefAt (now (s .entry)) at ⌝ }
+{
+    let w = read_at(UNDEF, s, at);
+    match w {
+        Read::Said(a, e, _) => MacroName::Named(a, e),
+        Read::Unformed => MacroName::Unnamed,
+        Read::Barred(n, p) => MacroName::Barred(n, p),
     }
-    Form::Unformed
 }

@@ -1,9 +1,10 @@
 // The whole outcome of the files on standard input, in the printing program's form, up to 200,000 bytes. Arguments: the
 // lengths lent for text, map, records, macro bytes and words; the replacement limit; the starting keyword set; the root.
+use formats::least;
 use libc::STDERR_FILENO;
 use libc::STDIN_FILENO;
-use report::NONE;
-use report::number_of;
+use options::NO_NUMBER;
+use options::number_of;
 
 fn complain(i: usize, most: usize) {
     io::write_all(STDERR_FILENO, b"dump: argument ");
@@ -14,11 +15,11 @@ fn complain(i: usize, most: usize) {
 }
 
 // Argument `i`, with a message where it is no number up to `most`.
-fn argument(i: usize, most: usize) -> u32 {
+fn argument(i: usize, most: usize) -> usize {
     let mut word = [0u8; 16];
     let n = os::arg(i, &mut word);
     let x = number_of(&word[..n]);
-    if most < x as usize {
+    if most < x {
         complain(i, most);
     }
     x
@@ -33,17 +34,17 @@ fn dump_lent(
     bytes: &mut [u8],
     words: &mut [[u32; 3]],
 ) {
-    let limit = argument(6, 4294967294);
-    let set = argument(7, 4294967294);
-    let root = argument(8, 4294967294);
-    if (limit == NONE) | (set == NONE) | (root == NONE) {
+    let limit = argument(6, 3999999999);
+    let set = argument(7, 3999999999);
+    let root = argument(8, 3999999999);
+    if (limit == NO_NUMBER) | (set == NO_NUMBER) | (root == NO_NUMBER) {
         return;
     }
     outcome::dump_input(
         s,
-        root as usize,
-        set,
-        limit as usize,
+        root,
+        least(set, NO_NUMBER) as u32,
+        limit,
         text,
         map,
         records,
@@ -61,26 +62,24 @@ fn run(
     bytes: &mut [u8],
     words: &mut [[u32; 3]],
 ) {
-    let a = argument(1, text.len()) as usize;
-    let b = argument(2, map.len()) as usize;
-    let c = argument(3, records.len()) as usize;
-    let d = argument(4, bytes.len()) as usize;
-    let e = argument(5, words.len()) as usize;
-    if text.len() < a {
+    let a = argument(1, text.len());
+    let b = argument(2, map.len());
+    let c = argument(3, records.len());
+    let d = argument(4, bytes.len());
+    let e = argument(5, words.len());
+    if (text.len() < a)
+        | (map.len() < b)
+        | (records.len() < c)
+        | (bytes.len() < d)
+        | (words.len() < e)
+    {
         return;
     }
-    if map.len() < b {
-        return;
-    }
-    if records.len() < c {
-        return;
-    }
-    if bytes.len() < d {
-        return;
-    }
-    if words.len() < e {
-        return;
-    }
+    let a = least(a, text.len());
+    let b = least(b, map.len());
+    let c = least(c, records.len());
+    let d = least(d, bytes.len());
+    let e = least(e, words.len());
     dump_lent(
         s,
         &mut text[0..a],

@@ -23,9 +23,9 @@ use Rattle.arguments.specs.Arguments.{bad, seek}
 use Rattle.arguments.specs.Ranges.{Lists, SoughtBy}
 use Rattle.arguments.specs.declared.Sought.{Sought}
 use Rattle.arguments.specs.declared.Sought.the-variants as sought
-use Rattle.replace.specs.Placing.{MacroIn, Small}
+use Rattle.replace.specs.Placing.{MacroIn}
 use Rattle.replace.specs.Replacing.{barred, listed, enough, accepted, listFor}
-use Rattle.expand.specs.declared.Called.the-variants as called
+use Rattle.expand.specs.declared.usages.Called.the-variants as called
 use Rattle.expand.specs.Standing.{CalledBy, Accepts}
 
 -- ---- the macro in the bytes
@@ -55,9 +55,6 @@ macro-in {ms} {b} {r} {n} {q} h small i l k =
     let s : ℕ = start ms i in
     let e : Entry b r i s m = entry h i l in
     macro-lies m small (record { fits = e .within; bytes = sym (part-sized b s (length (formOf m))) ∙ e .form-is }) (told e k)
-
-pub record-small : {v : List ℕ} {q : Record} → RecordIs v q → Small q
-record-small k = record { start-small = k .start-small; name-small = k .name-small; text-small = k .text-small; size-small = k .size-small }
 
 -- ---- what a usage names, by what the search answered
 

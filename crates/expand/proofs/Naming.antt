@@ -9,9 +9,8 @@ use Rattle.lex.specs.Tokens.{Name, Escaped, Quote, Grave, Byte}
 use Rattle.lex.proofs.Tests.{by-test, true-false}
 use Rattle.names.specs.Names.{isDirective, barsText}
 use Rattle.pending.specs.declared.Pend.{Pend}
-use Rattle.pending.specs.Pending.{View, calls, isBlank, byteView, graveView, kindView, view}
+use Rattle.pending.specs.Pending.{View, calls, isBlank, byteView, graveView, kindView, isCall, view}
 use Rattle.pending.specs.References.{pendingBy}
-use Rattle.expand.specs.Expanding.{isCall}
 
 abbrev Quiet : View → Type 0
 Quiet v = isCall v ≡ false

@@ -30,8 +30,8 @@ use Rattle.arguments.specs.declared.Sought.the-variants as sought
 use Rattle.replace.specs.Tidying.{tidyAll}
 use Rattle.replace.specs.Placing.{MacroIn, UsageIn, Stacks}
 use Rattle.replace.specs.Replacing.{barred, Got, refused, got, textWith, listFor, withList, replaceBy, replace, deepest}
-use Rattle.expand.specs.declared.Called.{Called}
-use Rattle.expand.specs.declared.Called.the-variants as called
+use Rattle.expand.specs.declared.usages.Called.{Called}
+use Rattle.expand.specs.declared.usages.Called.the-variants as called
 use Rattle.expand.specs.declared.Stand.{Stand}
 use Rattle.expand.specs.declared.Turn.{Turn}
 use Rattle.expand.specs.declared.Turn.the-variants as turn

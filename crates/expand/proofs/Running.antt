@@ -10,7 +10,6 @@ use lib.Dec.{leb}
 use lib.ListN.{length, getD, length-append}
 use borrow.Author.Tests.{le-ltb, leb-true, leb-false}
 use Rattle.lex.specs.Tokens.{inFile}
-use Rattle.lex.proofs.Tests.{true-false}
 use Rattle.lex.proofs.Progress.{token-at}
 use Rattle.definition.specs.Definitions.{Parameter, Macro, macro}
 use Rattle.sets.specs.Sets.{elem, insertAsc, members}
@@ -23,10 +22,11 @@ use Rattle.writing.specs.declared.Wrote.{Wrote}
 use Rattle.writing.specs.declared.Wrote.the-variants as wrote
 use Rattle.writing.proofs.Laws.{text-length, text-append, fresh-append, map-append, sets-append, puts-text, puts-map}
 use Rattle.pending.specs.declared.Pend.{Pend}
-use Rattle.pending.specs.Pending.{Pending, fileFrom, View, blanks, calls, names, opens, closes, commas, bars, plain, view}
+use Rattle.pending.specs.Pending.{Pending, fileFrom, View, calls, isCall, view, onUsage}
 use Rattle.pending.specs.References.{pendingBy, pendOf, blank, stacked}
 use Rattle.pending.specs.Sources.{itemsFrom}
 use Rattle.pending.proofs.Seeing.{from-out, from-more}
+use Rattle.pending.proofs.Viewing.{not-usage}
 use Rattle.arguments.specs.declared.Sought.{Sought}
 use Rattle.arguments.specs.declared.Sought.the-variants as sought
 use Rattle.arguments.specs.Ranges.{Ranged}
@@ -35,35 +35,25 @@ use Rattle.packed.specs.declared.Record.{Record}
 use Rattle.replace.specs.Tidying.{tidyAll}
 use Rattle.replace.specs.Placing.{MacroIn, UsageIn}
 use Rattle.replace.specs.Replacing.{Listed, listFor, withList, textWith, Got, refused, got, replaceBy, replace, deepest}
-use Rattle.expand.specs.declared.Called.{Called}
-use Rattle.expand.specs.declared.Called.the-variants as called
+use Rattle.expand.specs.declared.usages.Called.{Called}
+use Rattle.expand.specs.declared.usages.Called.the-variants as called
 use Rattle.expand.specs.declared.Stand.{Stand}
 use Rattle.expand.specs.declared.Turn.{Turn}
 use Rattle.expand.specs.declared.Turn.the-variants as turn
 use Rattle.expand.specs.declared.Expanded.{Expanded}
-use Rattle.expand.specs.Expanding.{Outer, Expansion, ends, writing, replacing, Next, onGot, onPut, isCall, dealBy, writes, walk, onward, first, goesOn, expand}
+use Rattle.expand.specs.Expanding.{Outer, Expansion, ends, writing, replacing, Next, onGot, onPut, writes, walk, onward, first, goesOn, expand}
 use Rattle.expand.specs.Standing.{Within, CalledBy, Accepts, AcceptedBy, leftOf, replacedTo, writtenTo, Puts, PutBy, ReplacedBy, restOf, stoppedAt, Final, finish, Stands, weightOf, Goes, SteppedBy, Ends, Expands}
 use Rattle.expand.proofs.Calling.{formalsOf, macro-in}
 use Rattle.expand.proofs.Naming.{usage-view}
 
 -- ---- the walk over the pending list
 
-deal-write : (v : View) (e : Expansion) (f : List ℕ → Expansion) → isCall v ≡ false → dealBy v e f ≡ e
-deal-write blanks e f q = refl
-deal-write (calls w) e f q = true-false true refl q
-deal-write (names w) e f q = refl
-deal-write (opens c) e f q = refl
-deal-write (closes b) e f q = refl
-deal-write commas e f q = refl
-deal-write (bars n i) e f q = refl
-deal-write plain e f q = refl
-
 module _ (go : Next) (o : Outer) (ms : List Macro) (r : Room) where
   module _ (p : Pending) (ps : List Pending) where
     walk-write : isCall (view p) ≡ false
         → walk go o ms r (p ∷ ps) ≡ onPut (placed 0 (o .place) (writes o p)) r (putIn r (placed 0 (o .place) (writes o p))) (λ r′. walk go o ms r′ ps)
     unfolding walk
-    walk-write q = deal-write (view p) _ _ q
+    walk-write q = not-usage (view p) _ _ q
 
     walk-put : (r′ : Room) → isCall (view p) ≡ false → putIn r (placed 0 (o .place) (writes o p)) ≡ fitted r′
         → walk go o ms r (p ∷ ps) ≡ writing (placed 0 (o .place) (writes o p)) (walk go o ms r′ ps)
@@ -78,7 +68,7 @@ module _ (go : Next) (o : Outer) (ms : List Macro) (r : Room) where
     walk-call : (w : List ℕ) → view p ≡ calls w → walk go o ms r (p ∷ ps) ≡ onGot go r (replace ms w (p .own) ps)
     unfolding walk
     walk-call w q =
-        ap (λ (v : View). dealBy v (onPut (placed 0 (o .place) (writes o p)) r (putIn r (placed 0 (o .place) (writes o p))) (λ r′. walk go o ms r′ ps)) (λ w. onGot go r (replace ms w (p .own) ps))) q
+        ap (λ (v : View). onUsage v (onPut (placed 0 (o .place) (writes o p)) r (putIn r (placed 0 (o .place) (writes o p))) (λ r′. walk go o ms r′ ps)) (λ w. onGot go r (replace ms w (p .own) ps))) q
 
 onward-more : (n : ℕ) (o : Outer) (ms : List Macro) (q rest : List Pending) (r : Room) → length (q ++ rest) ≤ 1024
     → onward (suc n) o ms q rest r ≡ replacing (deepest q) (walk (onward n o ms) o ms r (q ++ rest))

@@ -21,10 +21,10 @@ use Rattle.storing.specs.declared.Stored.the-variants.{Upto, Short}
 use Rattle.storing.proofs.Adding.{added-past, added-then}
 use Rattle.storing.proofs.Joining.{joined-length}
 use Rattle.pending.specs.declared.Pend.{Pend}
-use Rattle.pending.specs.Pending.{View, calls, bars, plain, isBlank, byteView, graveView, kindView, view}
+use Rattle.pending.specs.Pending.{View, calls, bars, plain, isBlank, byteView, graveView, kindView, isCall, view}
 use Rattle.pending.specs.References.{Space, isJoined, partIn, rawOf, pendingBy}
 use Rattle.pending.proofs.Viewing.{view-clear}
-use Rattle.expand.specs.Expanding.{Outer, isCall, spelled, writes}
+use Rattle.expand.specs.Expanding.{Outer, spelled, writes}
 
 -- ---- bytes behind the first of a buffer
 
@@ -84,12 +84,12 @@ part-short s i e = rw (length-take, length-drop) (omega arith)
 pub raw-length : (s b : List ℕ) (p : Pend) → length s ≤ 65535 → length b ≤ 65536 → length (rawOf s b p) ≤ 65536
 unfolding rawOf partIn
 raw-length s b p f g =
-    by-test Small (eqb (p .source) 2) (λ e. omega arith)
-    (λ e. by-test Small (eqb (p .source) 0 || eqb (p .source) 3) (λ e. omega (arith, part-short s (p .start) (p .end)))
-    (λ e. by-test Small (eqb (p .source) 1 || eqb (p .source) 4) (λ e. omega (arith, part-short b (p .start) (p .end))) (λ e. omega arith)))
+    by-test Short (eqb (p .source) 2) (λ e. omega arith)
+    (λ e. by-test Short (eqb (p .source) 0 || eqb (p .source) 3) (λ e. omega (arith, part-short s (p .start) (p .end)))
+    (λ e. by-test Short (eqb (p .source) 1 || eqb (p .source) 4) (λ e. omega (arith, part-short b (p .start) (p .end))) (λ e. omega arith)))
   where
-    Small : List ℕ → Type 0
-    Small w = length w ≤ 65536
+    Short : List ℕ → Type 0
+    Short w = length w ≤ 65536
 
 -- ---- usages
 

@@ -1,7 +1,7 @@
 -- One usage in a file expanded to its end.
 -- Assumes nothing.
 use Prim.Native.Nat.{ℕ, zero, suc, max}
-use mathlib.Core.Bool.{Bool, true, false, cond}
+use mathlib.Core.Bool.{cond}
 use mathlib.Core.List.{List, [], _∷_, _++_}
 use lib.Dec.{eqb, ltb}
 use lib.ListN.{length}
@@ -9,7 +9,7 @@ use Rattle.lex.specs.Tokens.{Escaped, Quote, EscapedQuote, Joiner, Grave}
 use Rattle.names.specs.Names.{FileWord, directiveOf}
 use Rattle.definition.specs.Definitions.{Macro}
 use Rattle.writing.specs.Written.{Written, placed, Room, Put, full, fitted, putIn}
-use Rattle.pending.specs.Pending.{Pending, fileFrom, View, blanks, calls, names, opens, closes, commas, bars, plain, view}
+use Rattle.pending.specs.Pending.{Pending, fileFrom, view, onUsage}
 use Rattle.replace.specs.Replacing.{Got, refused, got, replace, deepest}
 
 -- the outermost usage: what the two `__` words write there, and its place as the map has it
@@ -67,33 +67,12 @@ abbrev pub onPut : List Written → Room → Put → (Room → Expansion) → Ex
 onPut ws r (full n) go = ends n 0 r
 onPut ws r (fitted r′) go = writing ws (go r′)
 
--- whether a token is a usage
-abbrev pub isCall : View → Bool
-isCall blanks = false
-isCall (calls w) = true
-isCall (names w) = false
-isCall (opens c) = false
-isCall (closes b) = false
-isCall commas = false
-isCall (bars n i) = false
-isCall plain = false
-
 -- "The first pending token is written, or, if a usage, is replaced"
-abbrev pub dealBy : View → Expansion → (List ℕ → Expansion) → Expansion
-dealBy blanks wr re = wr
-dealBy (calls w) wr re = re w
-dealBy (names w) wr re = wr
-dealBy (opens c) wr re = wr
-dealBy (closes b) wr re = wr
-dealBy commas wr re = wr
-dealBy (bars n i) wr re = wr
-dealBy plain wr re = wr
-
 unfoldable pub walk : Next → Outer → List Macro → Room → List Pending → Expansion
 walk go o ms r [] = ends 0 0 r
 walk go o ms r (p ∷ ps) =
     let ws = placed 0 (o .place) (writes o p) in
-    dealBy (view p) (onPut ws r (putIn r ws) (λ r′. walk go o ms r′ ps)) (λ w. onGot go r (replace ms w (p .own) ps))
+    onUsage (view p) (onPut ws r (putIn r ws) (λ r′. walk go o ms r′ ps)) (λ w. onGot go r (replace ms w (p .own) ps))
 
 -- 18, then 17: "pending list over 1,024 after a replacement"; n: the replacements left
 unfoldable pub onward : ℕ → Outer → List Macro → Next

@@ -20,10 +20,10 @@ use Rattle.arguments.specs.Ranges.{Ranged, Unplaced}
 use Rattle.arguments.specs.declared.Sought.{Sought}
 use Rattle.arguments.specs.declared.Sought.the-variants as sought
 use Rattle.packed.specs.declared.Record.{Record}
-use Rattle.replace.specs.Placing.{Small}
+use Rattle.packed.specs.Records.{Small}
 use Rattle.replace.specs.Replacing.{Listed, barred, listed, Got, refused, got, replaceAt, replace, deepest}
-use Rattle.expand.specs.declared.Called.{Called}
-use Rattle.expand.specs.declared.Called.the-variants as called
+use Rattle.expand.specs.declared.usages.Called.{Called}
+use Rattle.expand.specs.declared.usages.Called.the-variants as called
 use Rattle.expand.specs.declared.Stand.{Stand}
 use Rattle.expand.specs.declared.Turn.{Turn}
 use Rattle.expand.specs.declared.Turn.the-variants as turn

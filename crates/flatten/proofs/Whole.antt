@@ -26,14 +26,15 @@ use Rattle.handover.specs.Entries.{blankEntry, bodyOf}
 use Rattle.handover.specs.Sizes.{HandOver, Rooms, isSound}
 use Rattle.handover.proofs.Laws.{entries-sound, entry-body, Sound, sound-facts}
 use Rattle.turns.specs.States.{Context, State}
-use Rattle.turns.specs.Runs.{Run, runFrom, measure, contextOf, startOf, Outcome, lineOf, outcomeOf, notTaken, flattened}
+use Rattle.turns.specs.Runs.{Run, runFrom, measure, contextOf, startOf, Outcome, lineOf, outcomeOf, notTaken, ranOver, flattened}
 use Rattle.turns.proofs.Rooms.{Fits, run-fits}
-use Rattle.running.specs.declared.stage.Stage.{Stage}
-use Rattle.running.specs.declared.stage.Last.{Last}
+use Rattle.steps.specs.declared.stage.Stage.{Stage}
+use Rattle.running.specs.declared.Last.{Last}
 use Rattle.flatten.specs.declared.Flattened.{Flattened}
-use Rattle.running.specs.Standing.{Bufs, bufs, outerFrames, stateOf, Fixed, Going}
+use Rattle.steps.specs.Standing.{Bufs, bufs, outerFrames, stateOf, Fixed}
+use Rattle.dispatch.specs.Going.{Going}
 use Rattle.running.specs.Ending.{Final, finish, ended, Finishes}
-use Rattle.flatten.specs.Flattening.{Lent, lent, roomsOf, handOver, over, answerOf, answerFrom, startStage, Startable, Leaves, Flattens}
+use Rattle.flatten.specs.Flattening.{Lent, lent, roomsOf, handOver, over, answerOf, answerFrom, startStage, Startable, Leaves, HoldsMacros, RunLeaves, Flattens}
 
 -- ---- the line of a refusal
 
@@ -184,7 +185,7 @@ module _ (store : List ℕ) (table starts : List (List ℕ)) (root set limit : �
       → ((x : Context) (ms : List Macro) → Fixed x store table set (bufs tx mp bs rs fr cd) → Holds ms bs rs (z .macros)
       → Finishes x limit (bufs tx mp bs rs fr cd) B′ ms z (l .stage) (l .number) (l .file) (l .byte))
       → ((ms : List Macro) (b : List ℕ) → Holds ms b (B′ .records) (l .stage .macros) → a ≡ answerFrom store table ms l)
-      → Leaves (outcomeOf (contextOf Given Room) Whole) (lent tx mp rs bs) (lent (B′ .text) (B′ .map) (B′ .records) (B′ .bytes)) a
+      → RunLeaves Given (lent tx mp rs bs) (lent (B′ .text) (B′ .map) (B′ .records) (B′ .bytes)) a
   run-leaves macros name form z B′ l a s q h u k =
       let fin = u (contextOf Given Room) (started store starts) (start-fixed s starts set limit tx mp fr cd) (rw q h) in
       let e : finish (bufs tx mp bs rs fr cd) (startStage root set macros) Whole ≡ ended B′ (l .stage) (l .number) (l .file) (l .byte) (fin .macros) =
@@ -195,11 +196,13 @@ module _ (store : List ℕ) (table starts : List (List ℕ)) (root set limit : �
       let m : sets mp 0 (mapOf true (Whole .text)) ≡ B′ .map = ap (λ (f : Final). f .map) e in
       let d : Whole .macros ≡ fin .macros = ap (λ (f : Final). f .macros) e in
       record {
-        answer =
-            k (fin .macros) (B′ .bytes) (fin .holds) ∙ told-counted store table B′ (fin .macros) l (fin .holds .count)
-            ∙ ap (told store table) (sym e) ∙ told-outcome (contextOf Given Room) (bufs tx mp bs rs fr cd) root set macros Whole;
-        text-is = sym t ∙ sets-over (textOf (Whole .text)) tx (rw (text-length (Whole .text)) (run-in .in-text));
-        map-is = sym m ∙ sets-over (mapOf true (Whole .text)) mp (run-in .in-map);
+        leaves = record {
+          answer =
+              k (fin .macros) (B′ .bytes) (fin .holds) ∙ told-counted store table B′ (fin .macros) l (fin .holds .count)
+              ∙ ap (told store table) (sym e) ∙ told-outcome (contextOf Given Room) (bufs tx mp bs rs fr cd) root set macros Whole;
+          text-is = sym t ∙ sets-over (textOf (Whole .text)) tx (rw (text-length (Whole .text)) (run-in .in-text));
+          map-is = sym m ∙ sets-over (mapOf true (Whole .text)) mp (run-in .in-map);
+        };
         macros-are =
             subst (λ (ms : List Macro). Holds ms (B′ .bytes) (B′ .records) (length ms)) (sym d)
             (record { bytes = fin .holds .bytes; rows = fin .holds .rows; count = refl });
@@ -213,9 +216,7 @@ unfolding flattened
 not-sound h l a e q =
     let f : notTaken ≡ flattened h (roomsOf l) = rw e in
     record {
-      answer = q ∙ ap answerOf f;
-      text-is = ap (λ (o : Outcome). over (o .text) (l .text)) f;
-      map-is = ap (λ (o : Outcome). over (o .map) (l .map)) f;
+      leaves = subst (λ (o : Outcome). Leaves o (l .text) (l .text) (l .map) (l .map) a) f (record { answer = q; text-is = refl; map-is = refl });
       untouched = λ n. (refl, refl);
       macros-are = λ y. true-false (isSound h (roomsOf l)) y e;
     }
@@ -248,20 +249,14 @@ module _ (h : HandOver) (tx mp bs bs₁ : List ℕ) (rs rs₁ : List (List ℕ))
 
   -- and what it leaves is the outcome
   pub flattens : (l′ : Lent) (a : Flattened)
-      → Leaves
-      (outcomeOf (contextOf h (roomsOf (lent tx mp rs₁ bs₁)))
-      (runFrom (contextOf h (roomsOf (lent tx mp rs₁ bs₁))) (startOf h (roomsOf (lent tx mp rs₁ bs₁)))))
-      (lent tx mp rs₁ bs₁) l′ a
-      → Flattens h (lent tx mp rs bs) l′ a
+      → RunLeaves h (lent tx mp rs₁ bs₁) l′ a → Flattens h (lent tx mp rs bs) l′ a
   unfolding flattened
   flattens l′ a k =
       let r : roomsOf (lent tx mp rs₁ bs₁) ≡ roomsOf (lent tx mp rs bs) = rw (p, q) in
-      let f : outcomeOf (contextOf h (roomsOf (lent tx mp rs₁ bs₁))) (runFrom (contextOf h (roomsOf (lent tx mp rs₁ bs₁))) (startOf h (roomsOf (lent tx mp rs₁ bs₁)))) ≡ flattened h (roomsOf (lent tx mp rs bs)) =
-      ap (λ (r : Rooms). outcomeOf (contextOf h r) (runFrom (contextOf h r) (startOf h r))) r ∙ rw e in
+      let f : ranOver h (roomsOf (lent tx mp rs₁ bs₁)) ≡ flattened h (roomsOf (lent tx mp rs bs)) =
+      ap (ranOver h) r ∙ rw e in
       record {
-        answer = k .answer ∙ ap answerOf f;
-        text-is = k .text-is ∙ ap (λ (o : Outcome). over (o .text) tx) f;
-        map-is = k .map-is ∙ ap (λ (o : Outcome). over (o .map) mp) f;
+        leaves = subst (λ (o : Outcome). Leaves o tx (l′ .text) mp (l′ .map) a) f (k .leaves);
         untouched = λ n. true-false (isSound h (roomsOf (lent tx mp rs bs))) e n;
-        macros-are = λ y. subst (λ (o : Outcome). Holds (o .macros) (l′ .bytes) (l′ .records) (length (o .macros))) f (k .macros-are);
+        macros-are = λ y. subst (λ (o : Outcome). HoldsMacros o l′) f (k .macros-are);
       }

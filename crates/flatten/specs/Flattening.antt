@@ -12,9 +12,9 @@ use Rattle.settings.specs.Settings.{resetTo}
 use Rattle.copying.specs.Cursors.{opening}
 use Rattle.handover.specs.Entries.{allEntries}
 use Rattle.handover.specs.Sizes.{HandOver, Rooms, isSound}
-use Rattle.turns.specs.Runs.{Outcome, lineOf, flattened}
-use Rattle.running.specs.declared.stage.Stage.{Stage}
-use Rattle.running.specs.declared.stage.Last.{Last}
+use Rattle.turns.specs.Runs.{Outcome, lineOf, ranOver, flattened}
+use Rattle.steps.specs.declared.stage.Stage.{Stage}
+use Rattle.running.specs.declared.Last.{Last}
 use Rattle.flatten.specs.declared.Flattened.{Flattened}
 
 -- the buffers that are lent to flatten
@@ -99,20 +99,23 @@ pub record Startable (store : List ℕ) (table : List (List ℕ)) (root : ℕ) (
   pub name-lent : 1025 ≤ length name
   pub form-lent : 65536 ≤ length form
 
--- an outcome in the lent buffers: text and map stand at the front of theirs, all behind as lent; the records and bytes hold the
--- macros, zero behind the last
-pub record Leaves (o : Outcome) (l l′ : Lent) (a : Flattened) : Type 0 where
+-- an outcome answered, its text and map in the lent ones: they stand at the front, all behind as lent
+pub record Leaves (o : Outcome) (t t′ m m′ : List ℕ) (a : Flattened) : Type 0 where
   pub answer : a ≡ answerOf o
-  pub text-is : l′ .text ≡ over (o .text) (l .text)
-  pub map-is : l′ .map ≡ over (o .map) (l .map)
-  pub macros-are : Holds (o .macros) (l′ .bytes) (l′ .records) (length (o .macros))
+  pub text-is : t′ ≡ over (o .text) t
+  pub map-is : m′ ≡ over (o .map) m
+
+-- its macros in the lent records and bytes: these hold them, zero behind the last
+abbrev pub HoldsMacros : Outcome → Lent → Type 0
+HoldsMacros o l′ = Holds (o .macros) (l′ .bytes) (l′ .records) (length (o .macros))
+
+-- a run's outcome, whole
+pub record RunLeaves (h : HandOver) (l l′ : Lent) (a : Flattened) : Type 0 where
+  pub leaves : Leaves (ranOver h (roomsOf l)) (l .text) (l′ .text) (l .map) (l′ .map) a
+  pub macros-are : HoldsMacros (ranOver h (roomsOf l)) l′
 
 -- flatten's contract: the outcome of the hand-over in these rooms, whole; "Refusal 1 touches nothing"
 pub record Flattens (h : HandOver) (l l′ : Lent) (a : Flattened) : Type 0 where
-  pub answer : a ≡ answerOf (flattened h (roomsOf l))
-  pub text-is : l′ .text ≡ over (flattened h (roomsOf l) .text) (l .text)
-  pub map-is : l′ .map ≡ over (flattened h (roomsOf l) .map) (l .map)
+  pub leaves : Leaves (flattened h (roomsOf l)) (l .text) (l′ .text) (l .map) (l′ .map) a
   pub untouched : isSound h (roomsOf l) ≡ false → (l′ .records ≡ l .records) × (l′ .bytes ≡ l .bytes)
-  pub macros-are :
-      isSound h (roomsOf l) ≡ true
-      → Holds (flattened h (roomsOf l) .macros) (l′ .bytes) (l′ .records) (length (flattened h (roomsOf l) .macros))
+  pub macros-are : isSound h (roomsOf l) ≡ true → HoldsMacros (flattened h (roomsOf l)) l′

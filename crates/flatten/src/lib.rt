@@ -5,19 +5,19 @@ ghost use Prim.Native.Nat.{ℕ};
 ghost use Rattle.definition.specs.Definitions.{Macro};
 ghost use Rattle.store.specs.Buffers.{Holds};
 ghost use Rattle.macros.specs.Starting.{started};
-ghost use Rattle.turns.specs.Runs.{contextOf, startOf, runFrom, lineOf, outcomeOf, notTaken};
-ghost use Rattle.flatten.specs.Flattening.{lent, roomsOf, handOver, answerOf, answerFrom, startStage, Startable, Leaves, Flattens};
+ghost use Rattle.turns.specs.Runs.{lineOf, notTaken};
+ghost use Rattle.flatten.specs.Flattening.{lent, handOver, answerOf, answerFrom, startStage, Startable, RunLeaves, Flattens};
 use blocks::Blocks;
 use copying::Cursor;
 use handover::body_at;
 use handover::is_sound;
 use macros::define_starts;
 use places::line_at;
+use running::Last;
 use running::run_on;
-use running::stage::Last;
-use running::stage::Stage;
 use settings::Settings;
 use settings::reset_to;
+use steps::stage::Stage;
 use store::start_of;
 use store::zero_store;
 use writing::Spot;
@@ -117,7 +117,7 @@ fn run(
     form: &mut [u8],
 ) -> Flattened
     requires { ⌜ Startable (now files) (now table) root (now bytes) (now records) macros (now name) (now form) ⌝ }
-    ensures { λ r. ⌜ ((starts : List (List ℕ)) → Holds (started (now (files .entry)) starts) (now (bytes .entry)) (now (records .entry)) macros → Leaves (outcomeOf (contextOf (handOver (now (files .entry)) (now (table .entry)) root starts set limit) (roomsOf (lent (now (text .entry)) (now (map .entry)) (now (records .entry)) (now (bytes .entry))))) (runFrom (contextOf (handOver (now (files .entry)) (now (table .entry)) root starts set limit) (roomsOf (lent (now (text .entry)) (now (map .entry)) (now (records .entry)) (now (bytes .entry))))) (startOf (handOver (now (files .entry)) (now (table .entry)) root starts set limit) (roomsOf (lent (now (text .entry)) (now (map .entry)) (now (records .entry)) (now (bytes .entry))))))) (lent (now (text .entry)) (now (map .entry)) (now (records .entry)) (now (bytes .entry))) (lent (now (text .exit)) (now (map .exit)) (now (records .exit)) (now (bytes .exit))) r) ⌝ }
+    ensures { λ r. ⌜ ((starts : List (List ℕ)) → Holds (started (now (files .entry)) starts) (now (bytes .entry)) (now (records .entry)) macros → RunLeaves (handOver (now (files .entry)) (now (table .entry)) root starts set limit) (lent (now (text .entry)) (now (map .entry)) (now (records .entry)) (now (bytes .entry))) (lent (now (text .exit)) (now (map .exit)) (now (records .exit)) (now (bytes .exit))) r) ⌝ }
 {
     let mut frames = [[0usize; 3]; 16];
     let mut conds = [[0usize; 6]; 32];

@@ -7,16 +7,16 @@ use mathlib.Core.Logic.{_⊎_, inl, inr}
 use mathlib.Core.Path.{_≡_, refl, sym, ap, _∙_}
 use native.Mathlib.Omega.{arith}
 use lib.ListN.{length}
+use Rattle.brackets.specs.Stacks.{Settled}
+use Rattle.brackets.proofs.Settling.{settled-full}
 use Rattle.storing.specs.declared.Stored.{Stored}
 use Rattle.storing.specs.declared.Stored.the-variants.{Upto, Short}
 use Rattle.definition.specs.Lists.{formalAt, whole, formalsAt}
 use Rattle.definition.specs.Definitions.{parameterOf}
-use Rattle.definition.specs.Answers.{Settled}
 use Rattle.definition.specs.declared.Formal.{Formal}
 use Rattle.definition.specs.declared.FormalRead.{FormalRead}
 use Rattle.definition.specs.declared.FormalRead.the-variants as formal
 use Rattle.definition.proofs.Formals.{Rest, formals-rest}
-use Rattle.definition.proofs.Settling.{settled-full}
 use Rattle.definition.proofs.Scanning.{Scanning, scan-first, scan-next, none-behind, some-behind}
 use Rattle.form.specs.Forms.{parameterForm}
 use Rattle.form.specs.Putting.{Put, PutBy}
@@ -35,7 +35,7 @@ unasked fs = true
 
 -- a walk from `at` on is at i, and k bytes of the buffer are filled
 pub record Walking (s work work′ o o′ : List ℕ) (at i n k : ℕ) : Type 0 where
-  pub scan : Scanning s work work′ unasked at i
+  pub scan : Scanning (λ (j : ℕ). Unit {0}) s work work′ unasked at i
   pub same-length : length o′ ≡ length o
   pub fits : k ≤ length o
   pub left : (fs : List Formal) (e : ℕ) → formalsAt s at ≡ whole fs e → Left s o o′ i n k fs e
@@ -54,7 +54,7 @@ module _ {s work work′ o o′ : List ℕ} {at i n k : ℕ} (a : Walking s work
   walk-fits = omega (arith, a .fits, a .same-length)
 
   -- the formal f was read at i; x: whether its form was put, with w work bytes
-  module _ {r : FormalRead} (h : Settled s work′ formal.Short (formalAt s i) r) {f : Formal} (q : r ≡ formal.Whole f) (w : ℕ) (o″ : List ℕ) (z : w ≡ length work′) (y : length o″ ≡ length o′) (x : Stored) (b : PutBy x (w < length s) o′ o″ k (parameterForm (parameterOf s f))) where
+  module _ {r : FormalRead} (h : Settled work′ (length s) formal.Short (formalAt s i) r) {f : Formal} (q : r ≡ formal.Whole f) (w : ℕ) (o″ : List ℕ) (z : w ≡ length work′) (y : length o″ ≡ length o′) (x : Stored) (b : PutBy x (w < length s) o′ o″ k (parameterForm (parameterOf s f))) where
     module _ {fs : List Formal} {e : ℕ} (p : formalsAt s at ≡ whole fs e) where
       walk-rest : Rest s f (a .left fs e p .rest) e
       walk-rest =
@@ -83,7 +83,7 @@ module _ {s work work′ o o′ : List ℕ} {at i n k : ℕ} (a : Walking s work
     pub walk-next : {v : List ℕ} {m : ℕ} → length v ≡ length work′ → x ≡ Upto m → f .last ≡ false → Walking s work v o o″ at (f .next) n m
     walk-next u t l =
         record {
-          scan = scan-next (a .scan) h q (λ gs e p. refl) l u;
+          scan = scan-next (a .scan) h q (λ w c gs e p. refl) (λ w c. tt) l u;
           same-length = y ∙ a .same-length;
           fits = omega (arith, a .same-length, put-so x (w < length s) o′ o″ k (parameterForm (parameterOf s f)) b t .fits);
           left = λ fs e p. record { rest = walk-rest p .rest; here = some-behind s f (walk-rest p .others) l; pushing = walk-on p t };

@@ -12,7 +12,8 @@ use lib.Seq.{drop-cons}
 use borrow.Author.Tests.{eqb-true, eqb-false, eq-eqb, leb-true, leb-false, lt-ltb}
 use Rattle.text.specs.Bytes.{holds, part}
 use Rattle.text.proofs.Matching.{part-more, part-none}
-use Rattle.lex.specs.Tokens.{inDefinition, inFile, Newline, LineComment, BlockComment, String, Quote, EscapedQuote, Joiner, Continuation, Byte, is, plain, marksAfter, tokenAt, tokens}
+use Rattle.lex.specs.Tokens.{inDefinition, inFile, Newline, LineComment, BlockComment, String, Continuation, Byte, is, isMark, plain, marksAfter, tokenAt, tokens}
+use Rattle.lex.specs.Faults.{Unbarred}
 use Rattle.lex.specs.declared.Token.{Token}
 use Rattle.lex.proofs.Tests.{by-test, true-false, read-within}
 use Rattle.lex.proofs.Progress.{token-at, token-ends}
@@ -21,13 +22,14 @@ use Rattle.brackets.specs.Steps.{Step, on, done, torn, stepOf}
 use Rattle.storing.specs.Stored.{piece, pieces}
 use Rattle.storing.specs.Graves.{isFree, graveIn}
 use Rattle.storing.proofs.Reading.{define-next}
-use Rattle.afresh.specs.Judging.{isUnfit, isAccented, heldBy, isOpen, unless, badHeld, badDefault}
+use Rattle.afresh.specs.Unfit.{isAccented, heldBy, isOpen, unless, isUnfit, unfitHeld, unfitDefault}
+use Rattle.judging.proofs.Shielding.{part-drop}
 use Rattle.genuine.specs.Spelling.{spelled}
 use Rattle.genuine.proofs.Tests.{or-left, or-right, and-false, and-first, and-second, passed}
-use Rattle.genuine.proofs.Parts.{part-join, part-one, part-drop, holds-append}
-use Rattle.genuine.proofs.Spelled.{Unbarred, Unmarked, Passes, stepBy, DefaultRead}
+use Rattle.genuine.proofs.Parts.{part-join, part-one, holds-append}
+use Rattle.genuine.proofs.Spelled.{Unmarked, no-quote, Passes, DefaultRead}
 use Rattle.genuine.proofs.Aligning.{space, Aligned, byte-alike, byte-within, newline-within, newline-slash, newline-next, newline-past}
-use Rattle.genuine.proofs.Turning.{fit-of, isMark, Taken, Turn, same, longer, token-turn}
+use Rattle.genuine.proofs.Turning.{fit-of, Taken, Turn, same, longer, token-turn}
 use Rattle.genuine.proofs.Breaking.{newline-token, slash-token, continuation-token}
 
 -- a default that is not bad: its next token is fit, and what follows is not bad
@@ -36,17 +38,17 @@ record Fine (w ks : List ℕ) (u : Token) : Type 0 where
   plain : isAccented w u ≡ false
   js : List ℕ
   steps : heldBy w u ks ≡ on js
-  rest : badHeld w js (tokens inFile w (u .end)) ≡ false
+  rest : unfitHeld w js (tokens inFile w (u .end)) ≡ false
 
-fine : (w ks : List ℕ) (i : ℕ) (u : Token) → u ≡ tokenAt inFile w i → i < length w → badHeld w ks (tokens inFile w i) ≡ false → Fine w ks u
-unfolding badHeld
+fine : (w ks : List ℕ) (i : ℕ) (u : Token) → u ≡ tokenAt inFile w i → i < length w → unfitHeld w ks (tokens inFile w i) ≡ false → Fine w ks u
+unfolding unfitHeld
 fine w ks i u q l e =
-    let r = unless (heldBy w u ks) (λ (js : List ℕ). badHeld w js (tokens inFile w (u .end))) in
+    let r = unless (heldBy w u ks) (λ (js : List ℕ). unfitHeld w js (tokens inFile w (u .end))) in
     let p : cond (isUnfit w false u || isAccented w u) true r ≡ false = rw (file-tokens w i l, ← q) at e in
     let h = passed (isUnfit w false u || isAccented w u) r p in
     go (heldBy w u ks) refl (h .0) (h .1)
   where
-    go : (d : Step) → heldBy w u ks ≡ d → (isUnfit w false u || isAccented w u) ≡ false → unless d (λ (js : List ℕ). badHeld w js (tokens inFile w (u .end))) ≡ false → Fine w ks u
+    go : (d : Step) → heldBy w u ks ≡ d → (isUnfit w false u || isAccented w u) ≡ false → unless d (λ (js : List ℕ). unfitHeld w js (tokens inFile w (u .end))) ≡ false → Fine w ks u
     go (on js) z g h =
         record {
           fit = or-left (isUnfit w false u) (isAccented w u) g;
@@ -86,8 +88,8 @@ module _ (s w r : List ℕ) (e : ℕ) (z : length s ≡ e + length (32 ∷ r)) w
     stored : (x : ℕ) (rest : List Token) → e ≤ x → pieces s x false (read ++ rest) ≡ drop i w ++ pieces s x false rest
     plain : (x : ℕ) (rest : List Token) → e ≤ x → graveIn s x (read ++ rest) ≡ graveIn s x rest
 
-  held-out : (ks : List ℕ) (i j : ℕ) → length w ≤ i → Aligned s w (32 ∷ r) i j → badHeld w ks (tokens inFile w i) ≡ false → Held ks i j
-  unfolding spelled badHeld
+  held-out : (ks : List ℕ) (i j : ℕ) → length w ≤ i → Aligned s w (32 ∷ r) i j → unfitHeld w ks (tokens inFile w i) ≡ false → Held ks i j
+  unfolding spelled unfitHeld
   held-out ks i j h a g =
       let p : drop j s ≡ 32 ∷ r = a .rest ∙ rw (drop-of-length-le w h) in
       let q : length s - j ≡ length (32 ∷ r) = sym (length-drop j s) ∙ ap length p in
@@ -116,18 +118,12 @@ module _ (s w r : List ℕ) (e : ℕ) (z : length s ≡ e + length (32 ∷ r)) w
       omega (arith, spelled-some i l)
 
   module _ (ks : List ℕ) (i j : ℕ) where
-    module _ (c : ℕ) (t : Token) (q : t ≡ tokenAt inDefinition s j) (l : j < length s) (m : j < e) (n : is Newline t ≡ false) (u : t .bar ≡ 0) (g : piece s false t ≡ part w i c) (h : i ≤ c) (o : isMark t ≡ false) (y : (not (isFree t) && holds 96 (part s (t .at) (t .end))) ≡ false) (js : List ℕ) (v : stepBy s t ks ≡ on js) (k : Held js c (t .end)) where
+    module _ (c : ℕ) (t : Token) (q : t ≡ tokenAt inDefinition s j) (l : j < length s) (m : j < e) (n : is Newline t ≡ false) (u : t .bar ≡ 0) (g : piece s false t ≡ part w i c) (h : i ≤ c) (o : isMark t ≡ false) (y : (not (isFree t) && holds 96 (part s (t .at) (t .end))) ≡ false) (js : List ℕ) (v : heldBy s t ks ≡ on js) (k : Held js c (t .end)) where
       starts : t .at ≡ j
       starts = ap (λ (t : Token). t .at) q ∙ token-at inDefinition s j
 
-      no-quote : is Quote t ≡ false
-      no-quote = or-left (is Quote t) (is EscapedQuote t || is Joiner t) o
-
-      no-mark : (is EscapedQuote t || is Joiner t) ≡ false
-      no-mark = or-right (is Quote t) (is EscapedQuote t || is Joiner t) o
-
       stays : marksAfter false t ≡ false
-      stays = rw no-quote
+      stays = rw (no-quote t o)
 
       next-split : tokens inDefinition s j ≡ (t ∷ k .read) ++ tokens inDefinition s e
       next-split = define-next false inDefinition s j t refl q l (eqb-false (t .kind) Newline n) ∙ rw (stays) (ap (λ (ts : List Token). t ∷ ts) (k .split))
@@ -151,7 +147,7 @@ module _ (s w r : List ℕ) (e : ℕ) (z : length s ≡ e + length (32 ∷ r)) w
             read = t ∷ k .read;
             split = next-split;
             unbarred = Unbarred.some u (k .unbarred);
-            unmarked = Unmarked.some no-quote (or-left (is EscapedQuote t) (is Joiner t) no-mark) (or-right (is EscapedQuote t) (is Joiner t) no-mark) (k .unmarked);
+            unmarked = Unmarked.some o (k .unmarked);
             passes = Passes.some v (k .passes);
             stored = next-stored;
             plain = next-plain;
@@ -159,9 +155,9 @@ module _ (s w r : List ℕ) (e : ℕ) (z : length s ≡ e + length (32 ∷ r)) w
 
     -- what is known of what follows
     abbrev Later : Type 0
-    Later = (js : List ℕ) (c f : ℕ) → i < c → Aligned s w (32 ∷ r) c f → badHeld w js (tokens inFile w c) ≡ false → Held js c f
+    Later = (js : List ℕ) (c f : ℕ) → i < c → Aligned s w (32 ∷ r) c f → unfitHeld w js (tokens inFile w c) ≡ false → Held js c f
 
-    module _ (a : Aligned s w (32 ∷ r) i j) (l : i < length w) (g : badHeld w ks (tokens inFile w i) ≡ false) (k : Later) where
+    module _ (a : Aligned s w (32 ∷ r) i j) (l : i < length w) (g : unfitHeld w ks (tokens inFile w i) ≡ false) (k : Later) where
       held-newline : getD w i 0 ≡ 10 → Held ks i j
       unfolding piece holds
       held-newline n =
@@ -178,7 +174,7 @@ module _ (s w r : List ℕ) (e : ℕ) (z : length s ≡ e + length (32 ∷ r)) w
 
       module _ (n : eqb (getD w i 0) 10 ≡ false) where
         held-taken : (c : ℕ) (js : List ℕ) → i < c → Taken s w (32 ∷ r) false false i j c (tokenAt inDefinition s j) → (not (isFree (tokenAt inDefinition s j)) && holds 96 (part w i c)) ≡ false
-            → stepBy s (tokenAt inDefinition s j) ks ≡ on js → badHeld w js (tokens inFile w c) ≡ false → Held ks i j
+            → heldBy s (tokenAt inDefinition s j) ks ≡ on js → unfitHeld w js (tokens inFile w c) ≡ false → Held ks i j
         held-taken c js h t y v b =
             let m = tokenAt inDefinition s j in
             let p : part s (m .at) (m .end) ≡ part w i c = ap (λ (p : ℕ). part s p (m .end)) (token-at inDefinition s j) ∙ t .along .same in
@@ -192,7 +188,7 @@ module _ (s w r : List ℕ) (e : ℕ) (z : length s ≡ e + length (32 ∷ r)) w
             let u = tokenAt inFile w i in
             let x : m .at ≡ j = token-at inDefinition s j in
             let y : u .at ≡ i = token-at inFile w i in
-            let d : stepBy s m ks ≡ heldBy w u ks = rw (q, x, y, byte-alike a l n) in
+            let d : heldBy s m ks ≡ heldBy w u ks = rw (q, x, y, byte-alike a l n) in
             let h : (not (is String m) && holds 96 (part w i (u .end))) ≡ false = ap (λ (p : ℕ). not (eqb p String) && holds 96 (part w i (u .end))) q ∙ (ap (λ (p : ℕ). not (is String u) && holds 96 (part w p (u .end))) (sym y) ∙ f .plain) in
             held-taken (u .end) (f .js) (token-ends inFile w i l) t
             (free-plain (is String m) (is LineComment m || is BlockComment m) (holds 96 (part w i (u .end))) h) (d ∙ f .steps) (f .rest)
@@ -204,7 +200,7 @@ module _ (s w r : List ℕ) (e : ℕ) (z : length s ≡ e + length (32 ∷ r)) w
             let d : u .end < length w = omega (arith, t .along .within) in
             let b : heldBy w u ks ≡ on ks = slash-held w u ks (λ q. ap (λ (p : ℕ). getD w p 0) x ∙ o .led q) in
             let y : f .js ≡ ks = on-same (sym (f .steps) ∙ b) in
-            let p : badHeld w ks (tokens inFile w (u .end)) ≡ false = ap (λ (js : List ℕ). badHeld w js (tokens inFile w (u .end))) (sym y) ∙ f .rest in
+            let p : unfitHeld w ks (tokens inFile w (u .end)) ≡ false = ap (λ (js : List ℕ). unfitHeld w js (tokens inFile w (u .end))) (sym y) ∙ f .rest in
             let v : Fine w ks (plain Byte (u .end) (u .end + 1) 0) = fine w ks (u .end) (plain Byte (u .end) (u .end + 1) 0) (sym (slash-token w (u .end) (o .slash) (o .newline) false false)) d p in
             let c : heldBy w (plain Byte (u .end) (u .end + 1) 0) ks ≡ on ks = slash-held w (plain Byte (u .end) (u .end + 1) 0) ks (λ q. o .slash) in
             let g : holds 96 (part w i (u .end)) ≡ false = ap (λ (p : ℕ). holds 96 (part w p (u .end))) (sym x) ∙ and-second (not (is String u)) (holds 96 (part w (u .at) (u .end))) (rw (o .no-string)) (f .plain) in
@@ -221,7 +217,7 @@ module _ (s w r : List ℕ) (e : ℕ) (z : length s ≡ e + length (32 ∷ r)) w
       held-step true n = held-newline (eqb-true (getD w i 0) 10 n)
       held-step false n = held-token n
 
-  default-walk : (n : ℕ) (ks : List ℕ) (i j : ℕ) → length w ≤ n + i → Aligned s w (32 ∷ r) i j → badHeld w ks (tokens inFile w i) ≡ false → Held ks i j
+  default-walk : (n : ℕ) (ks : List ℕ) (i j : ℕ) → length w ≤ n + i → Aligned s w (32 ∷ r) i j → unfitHeld w ks (tokens inFile w i) ≡ false → Held ks i j
   default-walk zero ks i j h a g = held-out ks i j (omega arith) a g
   default-walk (suc n) ks i j h a g = go (leb (length w) i) refl (λ js c f q. default-walk n js c f (omega arith))
     where
@@ -229,8 +225,8 @@ module _ (s w r : List ℕ) (e : ℕ) (z : length s ≡ e + length (32 ∷ r)) w
       go true q k = held-out ks i j (leb-true (length w) i q) a g
       go false q k = held-step ks i j a (leb-false (length w) i q) g k (eqb (getD w i 0) 10) refl
 
-pub default-read : (s d tail : List ℕ) (p : ℕ) → drop p s ≡ spelled d ++ (32 ∷ tail) → badDefault d ≡ false → DefaultRead s d p (p + length (spelled d))
-unfolding badDefault
+pub default-read : (s d tail : List ℕ) (p : ℕ) → drop p s ≡ spelled d ++ (32 ∷ tail) → unfitDefault d ≡ false → DefaultRead s d p (p + length (spelled d))
+unfolding unfitDefault
 default-read s d tail p e g =
     let q : length s - p ≡ length (spelled d) + length (32 ∷ tail) = sym (length-drop p s) ∙ (ap length e ∙ length-append (spelled d) (32 ∷ tail)) in
     let z : length s ≡ p + length (spelled d) + length (32 ∷ tail) = omega arith in

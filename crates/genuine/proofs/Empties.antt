@@ -7,10 +7,10 @@ use mathlib.Core.Path.{_≡_}
 use Rattle.text.specs.Bytes.{same}
 use Rattle.lex.specs.Tokens.{tokensFrom, tokens}
 use Rattle.storing.specs.Stored.{trimLeft, trimRight}
-use Rattle.afresh.specs.Judging.{badIn, badText}
+use Rattle.afresh.specs.Unfit.{unfitIn, unfitText}
 use Rattle.definition.specs.Definitions.{macro}
 use Rattle.genuine.specs.Fitness.{fitName, fitStored, fitParameters, fitMacro}
 
 pub empty-fit : (n : List ℕ) → fitName n ≡ true → fitMacro (macro n [] []) ≡ true
-unfolding fitMacro fitParameters fitStored same trimLeft trimRight badText badIn tokens tokensFrom
+unfolding fitMacro fitParameters fitStored same trimLeft trimRight unfitText unfitIn tokens tokensFrom
 empty-fit n e = rw e

@@ -5,23 +5,24 @@ use mathlib.Core.Bool.{Bool, true, false, cond, not, _||_}
 use mathlib.Core.List.{List, [], _∷_, _++_, append-nil}
 use mathlib.Core.Path.{_≡_, refl, sym, ap, _∙_}
 use native.Mathlib.Omega.{arith}
-use lib.Dec.{eqb, leb, ltb}
+use lib.Dec.{eqb, leb}
 use lib.ListN.{length, getD, drop, drop-of-length-le, length-drop}
-use borrow.Author.Tests.{eqb-true, eqb-false, eq-eqb, leb-true, leb-false, le-ltb}
-use Rattle.lex.specs.Tokens.{inDefinition, inText, between, Newline, Quote, Continuation, Byte, is, plain, marksAfter, tokenAt, tokens}
-use Rattle.lex.specs.Faults.{fault, noFault, worseOf}
+use borrow.Author.Tests.{eqb-true, eqb-false, eq-eqb, leb-true, leb-false, le-leb}
+use Rattle.lex.specs.Tokens.{inDefinition, inText, between, Newline, Quote, Continuation, Byte, is, isMark, plain, marksAfter, tokenAt, tokens}
+use Rattle.lex.specs.Faults.{fault, noFault, worseOf, Unbarred}
 use Rattle.lex.specs.declared.Fault.{Fault}
 use Rattle.lex.specs.declared.Token.{Token}
 use Rattle.lex.proofs.Tests.{by-test, read-within}
 use Rattle.lex.proofs.Progress.{token-at, token-ends, token-within}
 use Rattle.lex.proofs.Listing.{tokens-out}
 use Rattle.storing.proofs.Reading.{define-next, text-next}
-use Rattle.afresh.specs.Judging.{barredGrave, isUnfit, badIn, badText}
-use Rattle.definition.specs.Extents.{isMark, markOf, extentIn, least, barsOf}
+use Rattle.afresh.specs.Judging.{barredGrave}
+use Rattle.afresh.specs.Unfit.{isUnfit, unfitIn, unfitText}
+use Rattle.definition.specs.Extents.{markOf, extentIn, barsOf}
 use Rattle.definition.specs.declared.Extent.{Extent}
 use Rattle.genuine.specs.Spelling.{spelled}
 use Rattle.genuine.proofs.Tests.{or-left, passed}
-use Rattle.genuine.proofs.Spelled.{Unbarred, Unmarked}
+use Rattle.genuine.proofs.Spelled.{Unmarked}
 use Rattle.genuine.proofs.Aligning.{nothing, Aligned, byte-within, newline-within, newline-slash, newline-next, newline-past}
 use Rattle.genuine.proofs.Turning.{fit-of, Taken, Turn, same, longer, token-turn}
 use Rattle.genuine.proofs.Breaking.{newline-token, slash-token, continuation-token}
@@ -53,8 +54,7 @@ quiet-then {j = j} f g = record { extent = λ e. f .extent e ∙ g .extent j }
 pub quiet-read : {read : List Token} (rest : List Token) (w : Extent) → Unbarred read → Unmarked read → ((e : ℕ) → extentIn e noFault noFault rest ≡ w)
     → (e : ℕ) → extentIn e noFault noFault (read ++ rest) ≡ w
 quiet-read rest w Unbarred.none Unmarked.none f e = f e
-quiet-read rest w (Unbarred.some {t} {ts} z u) (Unmarked.some a b c m) f e =
-    let q : isMark t ≡ false = rw (a, b, c) in
+quiet-read rest w (Unbarred.some {t} {ts} z u) (Unmarked.some q m) f e =
     extent-plain e t (ts ++ rest) z q ∙ quiet-read rest w u m f (t .end)
 
 -- no mark, or one at x or behind
@@ -72,19 +72,19 @@ pub ended-bars : {s : List ℕ} {x : ℕ} {w : Extent} → Ended s x w → (y : 
 unfolding barsOf
 ended-bars {s} {x} {w} h y l = go (h .mark)
   where
-    go : Late x (w .mark) → cond (ltb (w .mark .place) y) (least (w .bars) (w .mark)) (w .bars) ≡ noFault
-    go (none q) = rw (h .bars, q) (by-test (λ (f : Fault). f ≡ noFault) (ltb 0 y) (λ e. refl) (λ e. refl))
-    go (late q) = rw (le-ltb (w .mark .place) y (omega arith), h .bars)
+    go : Late x (w .mark) → barsOf w y ≡ noFault
+    go (none q) = rw (h .bars, q) (by-test (λ (f : Fault). f ≡ noFault) (leb y 0) (λ e. refl) (λ e. refl))
+    go (late q) = rw (le-leb y (w .mark .place) (omega arith), h .bars)
 
 -- a text that is not bad: its next token is fit, and what follows is not bad
 record Fine (w : List ℕ) (b : Bool) (u : Token) : Type 0 where
   fit : isUnfit w b u ≡ false
-  rest : badIn w (marksAfter b u) (tokens (between inText (marksAfter b u)) w (u .end)) ≡ false
+  rest : unfitIn w (marksAfter b u) (tokens (between inText (marksAfter b u)) w (u .end)) ≡ false
 
-fine : (w : List ℕ) (b : Bool) (i : ℕ) (u : Token) → u ≡ tokenAt (between inText b) w i → i < length w → badIn w b (tokens (between inText b) w i) ≡ false → Fine w b u
-unfolding badIn
+fine : (w : List ℕ) (b : Bool) (i : ℕ) (u : Token) → u ≡ tokenAt (between inText b) w i → i < length w → unfitIn w b (tokens (between inText b) w i) ≡ false → Fine w b u
+unfolding unfitIn
 fine w b i u q l e =
-    let r = badIn w (marksAfter b u) (tokens (between inText (marksAfter b u)) w (u .end)) in
+    let r = unfitIn w (marksAfter b u) (tokens (between inText (marksAfter b u)) w (u .end)) in
     let p : cond (isUnfit w b u || barredGrave w u) true r ≡ false = rw (text-next b (between inText b) w i u refl q l) at e in
     let h = passed (isUnfit w b u || barredGrave w u) r p in
     record { fit = or-left (isUnfit w b u) (barredGrave w u) (h .0); rest = h .1 }
@@ -116,9 +116,9 @@ module _ (s w : List ℕ) (x : ℕ) where
   module _ (b : Bool) (i j : ℕ) where
     -- what is known of what follows
     abbrev Later : Type 0
-    Later = (c : Bool) (e f : ℕ) → i < e → j < f → f ≤ length s → Aligned s w [] e f → badIn w c (tokens (between inText c) w e) ≡ false → Reached c f
+    Later = (c : Bool) (e f : ℕ) → i < e → j < f → f ≤ length s → Aligned s w [] e f → unfitIn w c (tokens (between inText c) w e) ≡ false → Reached c f
 
-    module _ (a : Aligned s w [] i j) (h : x ≤ j) (l : i < length w) (g : badIn w b (tokens (between inText b) w i) ≡ false) (k : Later) where
+    module _ (a : Aligned s w [] i j) (h : x ≤ j) (l : i < length w) (g : unfitIn w b (tokens (between inText b) w i) ≡ false) (k : Later) where
       reached-newline : getD w i 0 ≡ 10 → Reached b j
       reached-newline n =
           let f : Fine w b (plain Newline i (i + 1) 0) = fine w b i (plain Newline i (i + 1) 0) (sym (newline-token w i true b n)) l g in
@@ -128,7 +128,7 @@ module _ (s w : List ℕ) (x : ℕ) where
 
       module _ (n : eqb (getD w i 0) 10 ≡ false) where
         reached-taken : (e : ℕ) (c : Bool) → i < e → Taken s w [] true b i j e (tokenAt (between inDefinition b) s j) → marksAfter b (tokenAt (between inDefinition b) s j) ≡ c
-            → badIn w c (tokens (between inText c) w e) ≡ false → Reached b j
+            → unfitIn w c (tokens (between inText c) w e) ≡ false → Reached b j
         reached-taken e c d t q r =
             let m = between inDefinition b in
             let v : j < length s = byte-within a l n in
@@ -145,7 +145,7 @@ module _ (s w : List ℕ) (x : ℕ) where
             let h : i < u .end = token-ends (between inText b) w i l in
             let g : u .end < length w = omega (arith, t .along .within) in
             let c : marksAfter b u ≡ b = rw (o .unquoted) in
-            let r : badIn w b (tokens (between inText b) w (u .end)) ≡ false = rw c at (f .rest) in
+            let r : unfitIn w b (tokens (between inText b) w (u .end)) ≡ false = rw c at (f .rest) in
             let v : Fine w b (plain Byte (u .end) (u .end + 1) 0) = fine w b (u .end) (plain Byte (u .end) (u .end + 1) 0) (sym (slash-token w (u .end) (o .slash) (o .newline) true b)) g r in
             reached-taken (u .end + 1) b (omega arith) t (rw (o .no-quote)) (v .rest)
 
@@ -158,7 +158,7 @@ module _ (s w : List ℕ) (x : ℕ) where
       reached-step true n = reached-newline (eqb-true (getD w i 0) 10 n)
       reached-step false n = reached-token n
 
-  reached-walk : (n : ℕ) (b : Bool) (i j : ℕ) → length w ≤ n + i → x ≤ j → j ≤ length s → Aligned s w [] i j → badIn w b (tokens (between inText b) w i) ≡ false → Reached b j
+  reached-walk : (n : ℕ) (b : Bool) (i j : ℕ) → length w ≤ n + i → x ≤ j → j ≤ length s → Aligned s w [] i j → unfitIn w b (tokens (between inText b) w i) ≡ false → Reached b j
   reached-walk zero b i j h d m a g = reached-out b i j (omega arith) a m
   reached-walk (suc n) b i j h d m a g = go (leb (length w) i) refl (λ c e f q r. reached-walk n c e f (omega arith) (omega arith))
     where
@@ -167,8 +167,8 @@ module _ (s w : List ℕ) (x : ℕ) where
       go false q k = reached-step b i j a d (leb-false (length w) i q) g k (eqb (getD w i 0) 10) refl
 
 -- a stored text at the end of a definition
-pub text-ended : (s w : List ℕ) (p : ℕ) → p ≤ length s → drop p s ≡ spelled w → badText w ≡ false → Ended s p (extentIn p noFault noFault (tokens inDefinition s p))
-unfolding badText
+pub text-ended : (s w : List ℕ) (p : ℕ) → p ≤ length s → drop p s ≡ spelled w → unfitText w ≡ false → Ended s p (extentIn p noFault noFault (tokens inDefinition s p))
+unfolding unfitText
 text-ended s w p l e g =
     let a : Aligned s w [] 0 p = record { behind = nothing; rest = e ∙ sym (append-nil (spelled w)) } in
     reached-walk s w p (length w) false 0 p (omega arith) (omega arith) l a g noFault (none refl)

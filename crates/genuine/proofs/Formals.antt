@@ -9,13 +9,13 @@ use native.Mathlib.Omega.{arith}
 use borrow.Author.Tests.{leb-true, eqb-true, le-leb, eq-eqb}
 use lib.Dec.{leb, eqb}
 use lib.ListN.{length, getD, length-append}
-use Rattle.text.specs.Bytes.{part}
+use Rattle.text.specs.Bytes.{part, twoAt}
 use Rattle.text.proofs.Matching.{part-none}
 use Rattle.lex.proofs.Tests.{and-left, and-right}
 use Rattle.definition.specs.Definitions.{Parameter, parameter}
 use Rattle.form.specs.Forms.{two, sized, parameterForm, parameterForms}
 use Rattle.genuine.specs.Fitness.{fitFormal, fitStored, fitDefault, isNamed, fitParameters}
-use Rattle.genuine.specs.Layout.{twoAt, markAt, formalName, formalEnd, formalDefault, defaultFits, namedFrom, formalFits, formalsFit}
+use Rattle.genuine.specs.Layout.{markAt, formalName, formalEnd, formalDefault, defaultFits, namedFrom, formalFits, formalsFit}
 use Rattle.genuine.proofs.Lying.{Lies, lies-none, lies-front, lies-back, lies-both, lies-part, part-length, part-lies, lies-byte, byte-lies, lies-two, sized-lies}
 
 -- ---- one formal

@@ -15,7 +15,6 @@ pub mod Rows
 pub mod Accepting
 pub mod Stripping
 pub mod Empties
-pub mod Seeing
 pub mod Naming
 pub mod Onward
 pub mod Heading

@@ -30,9 +30,9 @@ use Rattle.definition.proofs.Formals.{formals-next, behind-last, behind-more}
 use Rattle.genuine.specs.Fitness.{fitFormal, fitStored, fitDefault, isNamed, fitParameters}
 use Rattle.genuine.specs.Spelling.{spelled, spelledParameter, spelledFrom}
 use Rattle.genuine.proofs.Parts.{part-one}
-use Rattle.genuine.proofs.Spelled.{Unmarked, Passes, DefaultRead}
+use Rattle.genuine.proofs.Spelled.{Unmarked, no-quote, Passes, DefaultRead}
 use Rattle.genuine.proofs.Defaults.{default-read}
-use Rattle.genuine.proofs.Keeping.{kept, trim-behind}
+use Rattle.genuine.proofs.Keeping.{fit-default, kept, trim-behind}
 use Rattle.genuine.proofs.Standing.{Stands, stands, past, front, Reads, reads-next, reads-word, white-reads, space-pieces, Lone, closer, comma, equals, lone-reads, word, name-reads}
 use Rattle.genuine.proofs.Extended.{Quiet, quiet-one, quiet-then, quiet-read}
 
@@ -68,7 +68,7 @@ record Formed (s : List ℕ) (i : ℕ) (q : Parameter) (last : Bool) (r : List �
 passes-in : (s : List ℕ) {read : List Token} (rest : List Token) {ks js : List ℕ} → Passes s read ks js → Unmarked read → defaultIn s ks (read ++ rest) ≡ defaultIn s js rest
 unfolding defaultIn stepAt
 passes-in s rest Passes.none Unmarked.none = refl
-passes-in s rest (Passes.some q p) (Unmarked.some a b c m) = rw (a, q) (passes-in s rest p m)
+passes-in s rest (Passes.some q p) (Unmarked.some {t} a m) = rw (no-quote t a, q) (passes-in s rest p m)
 
 module _ (s f r : List ℕ) (c i : ℕ) (last : Bool) (k : Ends c last) (h : fitFormal f ≡ true) where
   -- without a default
@@ -113,7 +113,7 @@ module _ (s f r : List ℕ) (c i : ℕ) (last : Bool) (k : Ends c last) (h : fit
     sign = lone-reads s (spelled d ++ (32 ∷ (c ∷ r))) j equals (past s f (61 ∷ (spelled d ++ (32 ∷ (c ∷ r)))) i e)
 
     default : DefaultRead s d a z
-    default = default-read s d (c ∷ r) a (equal .rest) (kept false d g .good)
+    default = default-read s d (c ∷ r) a (equal .rest) (kept false d g .fit)
 
     from-space : drop z s ≡ 32 ∷ (c ∷ r)
     from-space = past s (spelled d) (32 ∷ (c ∷ r)) a (equal .rest)
@@ -166,7 +166,7 @@ module _ (s f r : List ℕ) (c i : ℕ) (last : Bool) (k : Ends c last) (h : fit
           within = omega (arith, ender .within);
           rest = last-byte .rest;
           means = rw (front s f (61 ∷ (spelled d ++ (32 ∷ (c ∷ r)))) i e, stored-there);
-          fine = rw (plain-there, stored-there) (kept false d g .good);
+          fine = rw (plain-there, stored-there) (fit-default d (kept false d g .fit));
           quiet = quiet-then (quiet-one name) (quiet-then (quiet-one sign) (quiet-then over-default (quiet-one ender)));
         }
 

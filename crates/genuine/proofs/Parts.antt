@@ -3,10 +3,10 @@
 use Prim.Native.Nat.{ℕ, _+_, _-_, _<_, _≤_}
 use mathlib.Core.Bool.{false, _||_}
 use mathlib.Core.List.{List, [], _∷_, _++_}
-use mathlib.Core.Path.{_≡_, sym, ap, _∙_}
+use mathlib.Core.Path.{_≡_, ap, _∙_}
 use native.Mathlib.Omega.{arith}
 use lib.Dec.{eqb}
-use lib.ListN.{length, getD, drop, take-append-drop}
+use lib.ListN.{length, getD, drop}
 use lib.Seq.{drop-drop, getD-drop, take-add}
 use Rattle.text.specs.Bytes.{holds, part}
 use Rattle.text.proofs.Matching.{part-more, part-none}
@@ -25,12 +25,6 @@ part-join s i e n h k =
 
 pub part-one : (s : List ℕ) (i : ℕ) → i < length s → part s i (i + 1) ≡ getD s i 0 ∷ []
 part-one s i l = part-more s i (i + 1) (omega arith) l ∙ ap (λ (r : List ℕ). getD s i 0 ∷ r) (part-none s (i + 1) (i + 1) (omega arith))
-
--- a part, and the text past it
-pub part-drop : (w : List ℕ) (i e : ℕ) → i ≤ e → part w i e ++ drop e w ≡ drop i w
-part-drop w i e h =
-    let q : i + (e - i) ≡ e = omega arith in
-    ap (λ (r : List ℕ). part w i e ++ r) (ap (λ (n : ℕ). drop n w) (sym q) ∙ sym (drop-drop (e - i) i w)) ∙ take-append-drop (e - i) (drop i w)
 
 pub holds-parted : (w : List ℕ) (i e : ℕ) → i < length w → i + 1 ≤ e → holds 10 (part w i e) ≡ false → (eqb (getD w i 0) 10 || holds 10 (part w (i + 1) e)) ≡ false
 unfolding holds

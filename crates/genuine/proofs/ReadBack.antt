@@ -13,7 +13,7 @@ use Rattle.lex.specs.Faults.{noFault}
 use Rattle.lex.proofs.Tests.{and-left, and-right}
 use Rattle.names.specs.Names.{isDirective}
 use Rattle.storing.specs.Stored.{trimRight, stored}
-use Rattle.afresh.specs.Judging.{badText}
+use Rattle.afresh.specs.Unfit.{unfitText}
 use Rattle.definition.specs.Extents.{extentAt, barsOf}
 use Rattle.definition.specs.Heads.{headAt}
 use Rattle.definition.specs.Lists.{Formals, whole}
@@ -25,7 +25,7 @@ use Rattle.genuine.specs.Fitness.{isShort, allSolid, fitName, fitParamet
 use Rattle.genuine.specs.Spelling.{spelled, definitionOf, wordEnd}
 use Rattle.genuine.proofs.Spelled.{TextRead}
 use Rattle.genuine.proofs.Texts.{text-read}
-use Rattle.genuine.proofs.Keeping.{Kept, kept}
+use Rattle.genuine.proofs.Keeping.{Kept, kept, fit-text}
 use Rattle.genuine.proofs.Extended.{Ended, ended-bars, text-ended}
 use Rattle.genuine.proofs.Listed.{parameters-length}
 use Rattle.genuine.proofs.Headed.{Headed, headed}
@@ -66,10 +66,10 @@ read-back (macro n ps t) h =
     let s = definitionOf (macro n ps t) in
     let a : Fit n ps t = fit n ps t h in
     let d : Headed s n ps (spelled t) = headed n ps t (a .name) (a .formals) in
-    let b : badText t ≡ false = a .text .good in
+    let b : unfitText t ≡ false = a .text .fit in
     let r : TextRead s t (d .first) = text-read s t (d .first) (d .rest) b in
     let w : Ended s (d .first) (extentAt s wordEnd) = rw (d .quiet .extent wordEnd) (text-ended s t (d .first) (d .within) (d .rest) b) in
     let v : stored s (d .text) (length s) ≡ t = ap trimRight (d .trims) ∙ rw (r .stored) (a .text .trimmed) in
     let l : length (d .formals) ≤ 16 = omega (arith, a .few, parameters-length s (d .formals), ap length (d .means)) in
     defined s n t ps (d .formals) (d .text) (extentAt s wordEnd) (headAt s wordEnd) (shapeBy s (headAt s wordEnd)) (d .shape) (w .end) (ended-bars w (d .text) (d .before))
-    (d .name) (d .means) v (rw (a .other, le-ltb 16 (length (d .formals)) l, d .fine) b)
+    (d .name) (d .means) v (rw (a .other, le-ltb 16 (length (d .formals)) l, d .fine) (fit-text t b))

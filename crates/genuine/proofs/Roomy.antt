@@ -8,8 +8,10 @@ use mathlib.Core.Path.{_≡_, refl, sym, ap, subst, _∙_}
 use native.Mathlib.Omega.{arith}
 use lib.ListN.{length}
 use Rattle.text.proofs.Matching.{same-equal}
+use Rattle.brackets.specs.Stacks.{Settled, full, over}
 use Rattle.storing.specs.Stored.{trimLeft, trimRight}
-use Rattle.afresh.specs.Feeding.{isBadAs, verdictOf, JudgedBy, full, over}
+use Rattle.afresh.specs.Feeding.{verdictOf}
+use Rattle.afresh.specs.Unfit.{isUnfitAs}
 use Rattle.afresh.specs.declared.Verdict.{Verdict}
 use Rattle.afresh.specs.declared.Verdict.the-variants as verdict
 use Rattle.genuine.specs.Fitness.{isTrimmed, fitStored}
@@ -25,21 +27,21 @@ good-told : (b : Bool) → isGood (verdictOf b) ≡ not b
 good-told true = refl
 good-told false = refl
 
-judged : {b : Bool} {s : List ℕ} {n : ℕ} {v : Verdict} → 16384 ≤ length s → n ≤ 65535 → JudgedBy b s n v → isGood v ≡ not b
-judged {b} h k (full e) = ap isGood e ∙ good-told b
-judged h k (over e f) = absurd (⊎-elim (λ p. omega arith) (λ p. omega arith) f)
+judged : (b : Bool) {s : List ℕ} {n : ℕ} {v : Verdict} → 16384 ≤ length s → n ≤ 65535 → Settled s n verdict.Short (verdictOf b) v → isGood v ≡ not b
+judged b h k (full e) = ap isGood e ∙ good-told b
+judged b h k (over e f) = absurd (⊎-elim (λ p. omega arith) (λ p. omega arith) f)
 
 module _ (text : Bool) (w : List ℕ) {a : Bool} (t : a ≡ isTrimmed w) where
   pub stored-ragged : not a ≡ true → false ≡ fitStored text w
   unfolding fitStored
   stored-ragged n = rw (no t n)
 
-  module _ {s : List ℕ} {v : Verdict} (y : not a ≡ false) (h : 16384 ≤ length s) (k : length w ≤ 65535) (j : JudgedBy (isBadAs text (trimRight (trimLeft w))) s (length w) v) where
+  module _ {s : List ℕ} {v : Verdict} (y : not a ≡ false) (h : 16384 ≤ length s) (k : length w ≤ 65535) (j : Settled s (length w) verdict.Short (verdictOf (isUnfitAs text (trimRight (trimLeft w)))) v) where
     told : isGood v ≡ fitStored text w
     unfolding fitStored
     told =
         let e : trimRight (trimLeft w) ≡ w = same-equal (trimRight (trimLeft w)) w (yes t y) in
-        rw (yes t y) (judged h k (subst (λ (u : List ℕ). JudgedBy (isBadAs text u) s (length w) v) e j))
+        rw (yes t y) (judged (isUnfitAs text w) h k (subst (λ (u : List ℕ). Settled s (length w) verdict.Short (verdictOf (isUnfitAs text u)) v) e j))
 
     pub stored-good : v ≡ verdict.Good → true ≡ fitStored text w
     stored-good e = sym (ap isGood e) ∙ told

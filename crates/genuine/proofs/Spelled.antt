@@ -1,36 +1,31 @@
 -- A stored text as it is spelled in a definition, read there: its tokens are those of the text read afresh.
 -- Assumes nothing.
-use Prim.Native.Nat.{ℕ, _+_, _≤_}
-use mathlib.Core.Bool.{Bool, true, false, cond}
+use Prim.Native.Nat.{ℕ, _≤_}
+use mathlib.Core.Bool.{false, _||_}
 use mathlib.Core.Path.{_≡_}
 use mathlib.Core.List.{List, [], _∷_, _++_}
-use lib.ListN.{length, getD, drop}
-use Rattle.lex.specs.Tokens.{inDefinition, Quote, EscapedQuote, Joiner, Byte, is, tokens}
+use lib.ListN.{length}
+use Rattle.lex.specs.Tokens.{inDefinition, Quote, EscapedQuote, Joiner, is, isMark, tokens}
+use Rattle.lex.specs.Faults.{Unbarred}
 use Rattle.lex.specs.declared.Token.{Token}
-use Rattle.brackets.specs.Steps.{Step, on, stepOf}
+use Rattle.brackets.specs.Steps.{on}
 use Rattle.storing.specs.Stored.{pieces}
 use Rattle.storing.specs.Graves.{graveIn}
-use Rattle.afresh.specs.Judging.{badText, badDefault}
-use Rattle.genuine.specs.Spelling.{spelled}
-
--- nothing bars these tokens
-pub data Unbarred : List Token → Type 0 where
-  none : Unbarred []
-  some : {t : Token} {ts : List Token} → t .bar ≡ 0 → Unbarred ts → Unbarred (t ∷ ts)
+use Rattle.afresh.specs.Unfit.{heldBy}
+use Rattle.genuine.proofs.Tests.{or-left}
 
 -- none of them is a joiner or a quote mark
 pub data Unmarked : List Token → Type 0 where
   none : Unmarked []
-  some : {t : Token} {ts : List Token} → is Quote t ≡ false → is EscapedQuote t ≡ false → is Joiner t ≡ false → Unmarked ts → Unmarked (t ∷ ts)
+  some : {t : Token} {ts : List Token} → isMark t ≡ false → Unmarked ts → Unmarked (t ∷ ts)
 
--- what a token does to the closing brackets due
-abbrev pub stepBy : List ℕ → Token → List ℕ → Step
-stepBy s t ks = cond (is Byte t) (stepOf (getD s (t .at) 0) ks) (on ks)
+pub no-quote : (t : Token) → isMark t ≡ false → is Quote t ≡ false
+no-quote t = or-left (is Quote t) (is EscapedQuote t || is Joiner t)
 
 -- from some closing brackets due to others
 pub data Passes (s : List ℕ) : List Token → List ℕ → List ℕ → Type 0 where
   none : {ks : List ℕ} → Passes s [] ks ks
-  some : {t : Token} {ts : List Token} {ks js hs : List ℕ} → stepBy s t ks ≡ on js → Passes s ts js hs → Passes s (t ∷ ts) ks hs
+  some : {t : Token} {ts : List Token} {ks js hs : List ℕ} → heldBy s t ks ≡ on js → Passes s ts js hs → Passes s (t ∷ ts) ks hs
 
 -- a stored text at the end of a definition
 pub record TextRead (s w : List ℕ) (p : ℕ) : Type 0 where

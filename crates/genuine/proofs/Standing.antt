@@ -12,18 +12,18 @@ use borrow.Author.Tests.{eqb-false, ne-eqb, le-leb, lt-leb, leb-true, lt-ltb, le
 use Rattle.text.specs.Bytes.{part}
 use Rattle.lex.specs.Classes.{isWhite, isStart, isDigit, isRun, isLegal, isSpan}
 use Rattle.lex.specs.Scans.{scan, runFrom, runEnd, spanFrom, spanEnd}
-use Rattle.lex.specs.Tokens.{inDefinition, White, Newline, Name, Escaped, Byte, Number, Dollar, Quote, EscapedQuote, Joiner, is, plain, named, backslashToken, signToken, isGap, tokenAt, tokens}
+use Rattle.lex.specs.Tokens.{inDefinition, White, Newline, Name, Escaped, Byte, Number, Dollar, is, plain, named, backslashToken, signToken, isGap, isMark, tokenAt, tokens}
 use Rattle.lex.specs.declared.Token.{Token}
 use Rattle.lex.proofs.Tests.{and-left, and-right, true-false}
 use Rattle.names.specs.Names.{isDirective}
 use Rattle.storing.specs.Stored.{piece, pieces}
 use Rattle.storing.proofs.Reading.{define-next}
-use Rattle.definition.specs.Extents.{isMark}
 use Rattle.definition.specs.Heads.{gapEnd, nextAt}
 use Rattle.definition.proofs.Reading.{gap-on, gap-stop}
 use Rattle.genuine.specs.Fitness.{isShort, allSolid, allRun, fitName, fitFormal}
 use Rattle.genuine.proofs.Tests.{or-left, or-right, and-false}
 use Rattle.genuine.proofs.Parts.{head-at, part-one}
+use Rattle.genuine.proofs.Spelled.{no-quote}
 
 -- the byte x at p, and r behind it
 pub record Stands (s : List ℕ) (p x : ℕ) (r : List ℕ) : Type 0 where
@@ -64,7 +64,7 @@ module _ {s : List ℕ} {p : ℕ} {t : Token} (h : Reads s p t) where
   pub reads-next : tokens inDefinition s p ≡ t ∷ tokens inDefinition s (t .end)
   reads-next =
       define-next false inDefinition s p t refl (sym (h .token)) (h .within) (eqb-false (t .kind) Newline (or-left (is Newline t) (isMark t) (h .plain)))
-      ∙ rw (or-left (is Quote t) (is EscapedQuote t || is Joiner t) reads-unmarked)
+      ∙ rw (no-quote t reads-unmarked)
 
   pub reads-gap : isGap t ≡ true → gapEnd s p ≡ gapEnd s (t .end)
   reads-gap g = gap-on s p inDefinition t (h .within) refl (sym (h .token)) (isGap t) refl (rw g)

@@ -9,9 +9,9 @@ use native.Mathlib.Omega.{arith}
 use lib.Dec.{eqb, leb}
 use lib.ListN.{length, drop, getD, length-take}
 use borrow.Author.Tests.{eq-eqb, ne-eqb, le-leb, lt-leb, leb-true}
-use Rattle.text.specs.Bytes.{same, part}
+use Rattle.text.specs.Bytes.{same, part, twoAt}
 use Rattle.genuine.specs.Fitness.{fitFormal, fitStored}
-use Rattle.genuine.specs.Layout.{twoAt, markAt, formalName, formalEnd, formalDefault, defaultFits, namedFrom, formalFits, formalsFit}
+use Rattle.genuine.specs.Layout.{markAt, formalName, formalEnd, formalDefault, defaultFits, namedFrom, formalFits, formalsFit}
 use Rattle.genuine.proofs.Testing.{no, yes}
 
 -- where a formal ends, and its name, by where its mark stands

@@ -11,7 +11,7 @@ use borrow.Author.Tests.{not-true, not-false, eq-eqb, lt-ltb, le-ltb, le-leb, lt
 use Rattle.text.specs.Bytes.{part}
 use Rattle.packed.specs.Records.{blankRecord, recordOf, RecordIs}
 use Rattle.packed.specs.declared.Record.{Record}
-use Rattle.genuine.specs.Layout.{isBlank, isFour, Small, allBlank, allZero, endsThere, leftFrom, leftIn, entryFits, endOf, nameIn}
+use Rattle.genuine.specs.Layout.{isBlank, isFour, allBlank, allZero, endsThere, leftFrom, leftIn, entryFits, endOf, nameIn}
 use Rattle.genuine.specs.declared.Checked.{Checked}
 use Rattle.genuine.specs.declared.Checked.the-variants as checked
 use Rattle.genuine.proofs.Testing.{no, yes}
@@ -19,9 +19,6 @@ use Rattle.genuine.proofs.Testing.{no, yes}
 module _ {v : List ℕ} {r : Record} (h : RecordIs v r) where
   pub row-four : isFour v ≡ true
   row-four = eq-eqb (length v) 4 (h .four)
-
-  pub row-small : Small r
-  row-small = record { start = h .start-small; name = h .name-small; text = h .text-small; size = h .size-small }
 
   pub row-told : (isFour v && isBlank (recordOf v)) ≡ isBlank r
   row-told = rw (row-four) (ap isBlank (sym (h .value)))

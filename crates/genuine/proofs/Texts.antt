@@ -10,17 +10,20 @@ use lib.ListN.{length, getD, drop, drop-of-length-le, length-drop}
 use borrow.Author.Tests.{eqb-true, eqb-false, leb-true, leb-false}
 use Rattle.text.specs.Bytes.{part}
 use Rattle.lex.specs.Tokens.{inDefinition, inText, between, Newline, Quote, Continuation, Byte, is, plain, marksAfter, tokenAt, tokens}
+use Rattle.lex.specs.Faults.{Unbarred, none, some}
 use Rattle.lex.specs.declared.Token.{Token}
 use Rattle.lex.proofs.Progress.{token-ends}
 use Rattle.lex.proofs.Listing.{tokens-out}
 use Rattle.storing.specs.Stored.{piece, pieces}
 use Rattle.storing.proofs.Reading.{define-next, text-next}
 use Rattle.storing.proofs.Joining.{pieces-out, pieces-next}
-use Rattle.afresh.specs.Judging.{barredGrave, isUnfit, badIn, badText}
+use Rattle.afresh.specs.Judging.{barredGrave}
+use Rattle.afresh.specs.Unfit.{isUnfit, unfitIn, unfitText}
+use Rattle.judging.proofs.Shielding.{part-drop}
 use Rattle.genuine.specs.Spelling.{spelled}
 use Rattle.genuine.proofs.Tests.{or-left, passed}
-use Rattle.genuine.proofs.Parts.{part-one, part-drop}
-use Rattle.genuine.proofs.Spelled.{Unbarred, none, some, TextRead}
+use Rattle.genuine.proofs.Parts.{part-one}
+use Rattle.genuine.proofs.Spelled.{TextRead}
 use Rattle.genuine.proofs.Aligning.{nothing, Aligned, byte-within, newline-within, newline-slash, newline-next, newline-past}
 use Rattle.genuine.proofs.Turning.{fit-of, Taken, Turn, same, longer, token-turn}
 use Rattle.genuine.proofs.Breaking.{newline-token, slash-token, continuation-token}
@@ -28,12 +31,12 @@ use Rattle.genuine.proofs.Breaking.{newline-token, slash-token, continu
 -- a text that is not bad: its next token is fit, and what follows is not bad
 record Fine (w : List ℕ) (b : Bool) (u : Token) : Type 0 where
   fit : isUnfit w b u ≡ false
-  rest : badIn w (marksAfter b u) (tokens (between inText (marksAfter b u)) w (u .end)) ≡ false
+  rest : unfitIn w (marksAfter b u) (tokens (between inText (marksAfter b u)) w (u .end)) ≡ false
 
-fine : (w : List ℕ) (b : Bool) (i : ℕ) (u : Token) → u ≡ tokenAt (between inText b) w i → i < length w → badIn w b (tokens (between inText b) w i) ≡ false → Fine w b u
-unfolding badIn
+fine : (w : List ℕ) (b : Bool) (i : ℕ) (u : Token) → u ≡ tokenAt (between inText b) w i → i < length w → unfitIn w b (tokens (between inText b) w i) ≡ false → Fine w b u
+unfolding unfitIn
 fine w b i u q l e =
-    let r = badIn w (marksAfter b u) (tokens (between inText (marksAfter b u)) w (u .end)) in
+    let r = unfitIn w (marksAfter b u) (tokens (between inText (marksAfter b u)) w (u .end)) in
     let p : cond (isUnfit w b u || barredGrave w u) true r ≡ false = rw (text-next b (between inText b) w i u refl q l) at e in
     let h = passed (isUnfit w b u || barredGrave w u) r p in
     record { fit = or-left (isUnfit w b u) (barredGrave w u) (h .0); rest = h .1 }
@@ -69,9 +72,9 @@ module _ (s w : List ℕ) where
 
     -- what is known of what follows
     abbrev Later : Type 0
-    Later = (c : Bool) (e f : ℕ) → i < e → Aligned s w [] e f → badIn w c (tokens (between inText c) w e) ≡ false → Kept c e f
+    Later = (c : Bool) (e f : ℕ) → i < e → Aligned s w [] e f → unfitIn w c (tokens (between inText c) w e) ≡ false → Kept c e f
 
-    module _ (a : Aligned s w [] i j) (l : i < length w) (g : badIn w b (tokens (between inText b) w i) ≡ false) (k : Later) where
+    module _ (a : Aligned s w [] i j) (l : i < length w) (g : unfitIn w b (tokens (between inText b) w i) ≡ false) (k : Later) where
       kept-newline : getD w i 0 ≡ 10 → Kept b i j
       unfolding piece
       kept-newline n =
@@ -83,7 +86,7 @@ module _ (s w : List ℕ) where
           (k b (i + 1) (j + 2) (omega arith) (newline-past a l n) (f .rest))
 
       kept-taken : (e : ℕ) (c : Bool) → i < e → Taken s w [] true b i j e (tokenAt (between inDefinition b) s j) → j < length s → c ≡ marksAfter b (tokenAt (between inDefinition b) s j)
-          → badIn w c (tokens (between inText c) w e) ≡ false → Kept b i j
+          → unfitIn w c (tokens (between inText c) w e) ≡ false → Kept b i j
       kept-taken e c h t m d r =
           kept-next e (tokenAt (between inDefinition b) s j) refl m (t .going) (t .unbarred) (t .gives) (t .along .past) c d
           (k c e (tokenAt (between inDefinition b) s j .end) h (t .along .aligned) r)
@@ -100,7 +103,7 @@ module _ (s w : List ℕ) where
             let g : u .end < length w = omega (arith, t .along .within) in
             let c : marksAfter b u ≡ b = rw (o .unquoted) in
             let d : marksAfter b (tokenAt (between inDefinition b) s j) ≡ b = rw (o .no-quote) in
-            let r : badIn w b (tokens (between inText b) w (u .end)) ≡ false = rw c at (f .rest) in
+            let r : unfitIn w b (tokens (between inText b) w (u .end)) ≡ false = rw c at (f .rest) in
             let v : Fine w b (plain Byte (u .end) (u .end + 1) 0) = fine w b (u .end) (plain Byte (u .end) (u .end + 1) 0) (sym (slash-token w (u .end) (o .slash) (o .newline) true b)) g r in
             kept-taken (u .end + 1) b (omega arith) t (byte-within a l n) (sym d) (v .rest)
 
@@ -113,7 +116,7 @@ module _ (s w : List ℕ) where
       kept-step true n = kept-newline (eqb-true (getD w i 0) 10 n)
       kept-step false n = kept-token n
 
-  text-walk : (n : ℕ) (b : Bool) (i j : ℕ) → length w ≤ n + i → Aligned s w [] i j → badIn w b (tokens (between inText b) w i) ≡ false → Kept b i j
+  text-walk : (n : ℕ) (b : Bool) (i j : ℕ) → length w ≤ n + i → Aligned s w [] i j → unfitIn w b (tokens (between inText b) w i) ≡ false → Kept b i j
   text-walk zero b i j h a g = kept-out b i j (omega arith) a
   text-walk (suc n) b i j h a g = go (leb (length w) i) refl (λ c e f q. text-walk n c e f (omega arith))
     where
@@ -121,8 +124,8 @@ module _ (s w : List ℕ) where
       go true q k = kept-out b i j (leb-true (length w) i q) a
       go false q k = kept-step b i j a (leb-false (length w) i q) g k (eqb (getD w i 0) 10) refl
 
-pub text-read : (s w : List ℕ) (p : ℕ) → drop p s ≡ spelled w → badText w ≡ false → TextRead s w p
-unfolding badText
+pub text-read : (s w : List ℕ) (p : ℕ) → drop p s ≡ spelled w → unfitText w ≡ false → TextRead s w p
+unfolding unfitText
 text-read s w p e g =
     let a : Aligned s w [] 0 p = record { behind = nothing; rest = e ∙ sym (append-nil (spelled w)) } in
     let k : Kept s w false 0 p = text-walk s w (length w) false 0 p (omega arith) a g in

@@ -13,14 +13,14 @@ use Rattle.text.specs.Bytes.{holds, part}
 use Rattle.text.proofs.Matching.{part-more}
 use Rattle.lex.specs.Classes.{isWhite, isDigit, isStart, isRun, isSign, isBase, isLegal}
 use Rattle.lex.specs.Scans.{runEnd, spanEnd, stringEnd}
-use Rattle.lex.specs.Tokens.{inDefinition, between, Newline, LineComment, BlockComment, String, Name, Dollar, Escaped, Number, Based, Quote, EscapedQuote, Joiner, Grave, Byte, White, Continuation, is, plain, named, escapedOr, stringToken, slashToken, backslashToken, digitsToken, basedToken, escapedGrave, graveToken, signToken, tokenAt}
+use Rattle.lex.specs.Tokens.{inDefinition, between, Newline, LineComment, BlockComment, String, Name, Dollar, Escaped, Number, Based, Quote, EscapedQuote, Joiner, Grave, Byte, White, Continuation, is, isMark, plain, named, escapedOr, stringToken, slashToken, backslashToken, digitsToken, basedToken, escapedGrave, graveToken, signToken, tokenAt}
 use Rattle.lex.specs.declared.Mode.{Mode}
 use Rattle.lex.specs.declared.Scan.{Scan}
 use Rattle.lex.specs.declared.Token.{Token}
 use Rattle.lex.proofs.Tests.{by-test, and-left, and-right, true-false}
 use Rattle.lex.proofs.Progress.{string-inside}
 use Rattle.storing.specs.Stored.{joinedFrom, piece}
-use Rattle.afresh.specs.Judging.{isSlanted, isCrowded, isUnfit}
+use Rattle.afresh.specs.Unfit.{isSlanted, isCrowded, isUnfit}
 use Rattle.genuine.proofs.Tests.{or-left, or-right, and-false, and-first, and-second, and-alike}
 use Rattle.genuine.proofs.Parts.{holds-parted}
 use Rattle.genuine.proofs.Aligning.{Aligned, Clear, clear-end, clear-newline, test-alike, never-newline, Along, along-one, along-passed, passed-alike, along-join, byte-alike, byte-within}
@@ -56,10 +56,6 @@ fit-of w odd u e =
 -- a token that is not stored as it stands, or may not be
 abbrev pub isAside : Token → Bool
 isAside t = is Newline t || (is LineComment t || (is BlockComment t || (is String t || is Continuation t)))
-
--- a joiner or a quote mark
-abbrev pub isMark : Token → Bool
-isMark t = is Quote t || (is EscapedQuote t || is Joiner t)
 
 -- the token t of the spelling at j stands for w from i to before e; x: in macro text; b: between quote marks
 pub record Taken (s w tail : List ℕ) (x b : Bool) (i j e : ℕ) (t : Token) : Type 0 where

@@ -10,7 +10,7 @@ use Rattle.text.specs.Bytes.{same}
 use Rattle.lex.specs.Classes.{isStart, isRun}
 use Rattle.names.specs.Names.{isDirective}
 use Rattle.storing.specs.Stored.{trimLeft, trimRight}
-use Rattle.afresh.specs.Feeding.{isBadAs}
+use Rattle.afresh.specs.Unfit.{isUnfitAs}
 use Rattle.definition.specs.Definitions.{Parameter, parameter, Macro, macro}
 
 -- "name 1,024 bytes"
@@ -45,7 +45,7 @@ isTrimmed w = same (trimRight (trimLeft w)) w
 
 -- a stored text, or else a stored default
 unfoldable pub fitStored : Bool → List ℕ → Bool
-fitStored text w = isTrimmed w && not (isBadAs text w)
+fitStored text w = isTrimmed w && not (isUnfitAs text w)
 
 abbrev pub fitDefault : Option (List ℕ) → Bool
 fitDefault none = true

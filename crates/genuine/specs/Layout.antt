@@ -1,12 +1,12 @@
 -- Which records and bytes definitions leave: forms packed from the first byte on, in strict byte order of their names, each one
 -- that some definition stores, and all zero past the last.
 -- Assumes nothing.
-use Prim.Native.Nat.{ℕ, zero, suc, _+_, _*_, _<_}
+use Prim.Native.Nat.{ℕ, zero, suc, _+_}
 use mathlib.Core.Bool.{Bool, true, false, cond, not, _&&_}
 use mathlib.Core.List.{List, [], _∷_}
 use lib.Dec.{eqb, leb, ltb}
 use lib.ListN.{length, getD, drop}
-use Rattle.text.specs.Bytes.{same, part}
+use Rattle.text.specs.Bytes.{same, part, twoAt}
 use Rattle.text.specs.Order.{orderOf}
 use Rattle.text.specs.declared.Order.{Order}
 use Rattle.text.specs.declared.Order.the-variants.{Less, Equal, Greater}
@@ -16,11 +16,8 @@ use Rattle.genuine.specs.Fitness.{fitName, fitFormal, fitStored}
 use Rattle.genuine.specs.declared.Checked.{Checked}
 use Rattle.genuine.specs.declared.Checked.the-variants as checked
 
--- "two bytes of length (low first)" at i
-abbrev pub twoAt : List ℕ → ℕ → ℕ
-twoAt b i = getD b i 0 + 256 * getD b (i + 1) 0
-
--- of the formal at i: where its name ends, which is where its mark stands; its name; where its default starts and ends
+-- "per formal two bytes of length (low first), name, mark .., two bytes of length, default": of the formal at i, where its name
+-- ends, which is where its mark stands; its name; where its default starts and ends
 abbrev pub markAt : List ℕ → ℕ → ℕ
 markAt b i = i + 2 + twoAt b i
 
@@ -113,10 +110,3 @@ leftFrom n b a w (v ∷ vs) =
 -- the number of macros in a store that definitions leave, or that it is none such
 unfoldable pub leftIn : List ℕ → List (List ℕ) → Checked
 leftIn b rows = cond (leb (length b) 65536) (leftFrom 0 b 0 [] rows) checked.Foreign
-
--- each number of a record has 32 bits
-pub record Small (r : Record) : Type 0 where
-  pub start : r .start < 4294967296
-  pub name : r .name < 4294967296
-  pub text : r .text < 4294967296
-  pub size : r .size < 4294967296

@@ -5,8 +5,9 @@ ghost use Prim.Native.Nat.{_+_, _≤_};
 ghost use lib.ListN.{length, drop};
 ghost use Rattle.text.specs.Bytes.{part};
 ghost use Rattle.text.specs.Order.{orderOf};
+ghost use Rattle.packed.specs.Records.{Small};
 ghost use Rattle.genuine.specs.Fitness.{isShort, allSolid, fitName, allRun, fitFormal, isTrimmed, fitStored};
-ghost use Rattle.genuine.specs.Layout.{twoAt, markAt, formalEnd, formalName, defaultFits, namedFrom, formalFits, formalsFit, isLess, bodyFits, entryFits, allZero, allBlank, endsThere, leftFrom, leftIn, Small};
+ghost use Rattle.genuine.specs.Layout.{markAt, formalEnd, formalName, defaultFits, namedFrom, formalFits, formalsFit, isLess, bodyFits, entryFits, allZero, allBlank, endsThere, leftFrom, leftIn};
 ghost use Rattle.genuine.specs.Layout.{isBlank as isBlankRecord};
 use afresh::Verdict;
 use judging::judge_whole;
@@ -21,6 +22,7 @@ use text::compare;
 use text::part_of;
 use text::peek;
 use text::same;
+use text::two_at;
 
 // The number of macros that a store holds, or that no definitions leave it.
 pub enum Checked {
@@ -116,14 +118,6 @@ fn is_fit_stored(w: &[u8], text: bool, name: &mut [u8], stack: &mut [u8]) -> boo
         Verdict::Bad => false,
         Verdict::Short => false,
     }
-}
-
-// Two bytes of length, low first.
-pub fn two_at(b: &[u8], i: usize) -> usize
-    requires { ⌜ i ≤ 4611686018427387904 ⌝ }
-    ensures { λ r. ⌜ (r ≡ twoAt (now (b .entry)) i) × (r ≤ 65535) ⌝ }
-{
-    peek(b, i) as usize + 256 * (peek(b, i + 1) as usize)
 }
 
 // Where the mark of the formal at `i` stands.

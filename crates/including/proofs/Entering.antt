@@ -82,15 +82,15 @@ module _ (store : List ℕ) (table : List (List ℕ)) (s : List ℕ) (t : Token)
           let i : Inside (h .body) (h .token .end) (l .end) = rw (x .body-is, x .token-is, q) (include-inside s (t .end) (rw (x .body-is, x .token-is) at w)) in
           ends-at h (l .end) i
 
-      module _ (a e : ℕ) (w : List ℕ) (r : Entered) where
+      module _ (a e : ℕ) (r : Entered) where
         -- a file in quotes is entered by its name
-        pub include-quoted : l .file ≡ Quoted a e → w ≡ part s a e → Enter 0 w r → Include r
-        include-quoted f p k h x =
-            let u : includeAct h (includeAt s (t .end)) ≡ enterAct h l 0 w = rw (← q, eq-eqb (l .bars .number) 0 n, f, x .body-is, ← p) in
+        pub include-quoted : l .file ≡ Quoted a e → Enter 0 (part s a e) r → Include r
+        include-quoted f k h x =
+            let u : includeAct h (includeAt s (t .end)) ≡ enterAct h l 0 (part s a e) = rw (← q, eq-eqb (l .bars .number) 0 n, f, x .body-is) in
             rw u (k h x (line-ends h x))
 
         -- .. or in angle brackets
-        pub include-angled : l .file ≡ Angled a e → w ≡ part s a e → Enter 1 w r → Include r
-        include-angled f p k h x =
-            let u : includeAct h (includeAt s (t .end)) ≡ enterAct h l 1 w = rw (← q, eq-eqb (l .bars .number) 0 n, f, x .body-is, ← p) in
+        pub include-angled : l .file ≡ Angled a e → Enter 1 (part s a e) r → Include r
+        include-angled f k h x =
+            let u : includeAct h (includeAt s (t .end)) ≡ enterAct h l 1 (part s a e) = rw (← q, eq-eqb (l .bars .number) 0 n, f, x .body-is) in
             rw u (k h x (line-ends h x))

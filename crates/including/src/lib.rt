@@ -4,6 +4,7 @@ ghost use mathlib.Core.Bool.{_&&_, _||_};
 ghost use Prim.Native.Nat.{_<_};
 ghost use lib.Dec.{eqb};
 ghost use lib.ListN.{getD};
+ghost use Rattle.text.specs.Bytes.{part};
 ghost use Rattle.directive.specs.Include.{includeAt};
 ghost use Rattle.turns.specs.States.{Here};
 ghost use Rattle.turns.specs.Acts.{enterAct, includeAct};
@@ -30,7 +31,7 @@ fn is_barred(other: bool, l: IncludeLine, form: u32, w: &[u8]) -> bool
     other | (l.other | ((form == 1) & (peek(w, 0) == 47)))
 }
 
-// Includes the file of that form and name: 9, 10.
+// Includes the file of that form whose name stands there: 9, 10.
 fn enter(
     store: &[u8],
     table: &[[u32; 5]],
@@ -40,11 +41,13 @@ fn enter(
     depth: usize,
     l: IncludeLine,
     form: u32,
-    w: &[u8],
+    from: usize,
+    end: usize,
 ) -> Entered
     requires { ⌜ 0 < depth ⌝ }
-    ensures { λ r. ⌜ ((h : Here) → IncludeHere h (now (store .entry)) (now (table .entry)) (now (s .entry)) t other depth → EndsIn h (l .end) → EnteredBy r h (enterAct h l form (now (w .entry))) (now (table .entry)) depth) ⌝ }
+    ensures { λ r. ⌜ ((h : Here) → IncludeHere h (now (store .entry)) (now (table .entry)) (now (s .entry)) t other depth → EndsIn h (l .end) → EnteredBy r h (enterAct h l form (part (now (s .entry)) from end)) (now (table .entry)) depth) ⌝ }
 {
+    let w = part_of(s, from, end);
     if is_barred(other, l, form, w) {
         return Entered::Refused(9, t.at);
     }
@@ -78,7 +81,7 @@ pub fn include(
     let f = l.file;
     match f {
         FileName::Unnamed => Entered::Refused(7, t.at),
-        FileName::Quoted(a, e) => enter(store, table, s, t, other, depth, l, 0, part_of(s, a, e)),
-        FileName::Angled(a, e) => enter(store, table, s, t, other, depth, l, 1, part_of(s, a, e)),
+        FileName::Quoted(a, e) => enter(store, table, s, t, other, depth, l, 0, a, e),
+        FileName::Angled(a, e) => enter(store, table, s, t, other, depth, l, 1, a, e),
     }
 }

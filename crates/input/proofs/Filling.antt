@@ -1,7 +1,7 @@
 -- What the loops of a section keep, how a section goes on at the next row, and what the sections make of an input.
 -- Assumes nothing.
 use mathlib.Core.Path.{_≡_, refl, sym, ap, subst, _∙_}
-use mathlib.Core.Bool.{Bool, true, false, cond, _||_}
+use mathlib.Core.Bool.{Bool, true, false, _||_}
 use mathlib.Core.List.{List, [], _∷_, _++_, append-assoc}
 use Prim.Native.Nat.{ℕ, zero, suc, min, _+_, _-_, _<_, _≤_}
 use native.Mathlib.Omega.{arith}
@@ -9,11 +9,12 @@ use lib.Dec.{ltb}
 use lib.ListN.{length, take, getD, set, length-append, length-set, List·getD-append}
 use lib.Seq.{getD-set-same, getD-set-other, getD-at, getD-take}
 use borrow.Author.Tests.{lt-ltb, le-ltb, eq-eqb, ne-eqb, ltb-true, ltb-false}
+use Rattle.text.specs.Bytes.{twoAt}
 use Rattle.input.specs.declared.Parsed.{Parsed}
 use Rattle.input.specs.declared.Section.{Section}
 use Rattle.input.specs.declared.Section.the-variants as section
-use Rattle.input.specs.Sections.{twoAt, Rows, broken, rows, also, namesAt, bodiesAt, startsAt, entryOf, entriesOf, Input, unformed, withStarts, withBodies, withNames, inputOf}
-use Rattle.input.specs.Filling.{NamesIn, NamesBy, BodiesBy, StartsBy, FillsBoth, ParsedBy}
+use Rattle.input.specs.Sections.{Rows, broken, rows, also, Row, misfit, fit, onRow, rowsAt, nameAt, bodyAt, startAt, entryOf, entriesOf, Input, unformed, withStarts, withBodies, withNames, inputOf}
+use Rattle.input.specs.Filling.{NamesIn, RowsBy, NamesBy, BodiesIn, BodiesBy, StartsIn, StartsBy, FillsBoth, ParsedBy}
 
 -- rows before those of a section
 abbrev ahead : List (List ℕ) → Rows → Rows
@@ -34,19 +35,19 @@ append-none (v ∷ vs) = ap (λ (l : List (List ℕ)). v ∷ l) (append-none vs)
 
 -- what a loop over the n rows of a section keeps: k of them are done and end at i; in the table t, which was t₀,
 -- row j stands as R tells, and the entries from k on are as they were
-pub record Filling (F : ℕ → List ℕ → ℕ → Rows) (R : List (List ℕ) → ℕ → List ℕ → List ℕ → Type 0) (s : List ℕ) (at n : ℕ) (t₀ t : List (List ℕ)) (i k : ℕ) : Type 0 where
+pub record Filling (g : List ℕ → ℕ → Row) (R : List (List ℕ) → ℕ → List ℕ → List ℕ → Type 0) (s : List ℕ) (at n : ℕ) (t₀ t : List (List ℕ)) (i k : ℕ) : Type 0 where
   pub done : List (List ℕ)
   pub many : length done ≡ k
   pub few : k ≤ n
   pub slow : k ≤ i
   pub within : i ≤ length s
   pub long : length t ≡ length t₀
-  pub rest : F n s at ≡ ahead done (F (n - k) s i)
+  pub rest : rowsAt g n s at ≡ ahead done (rowsAt g (n - k) s i)
   pub row : (j : ℕ) → j < k → j < length t → R t₀ j (getD t j []) (getD done j [])
   pub kept : (j : ℕ) → k ≤ j → getD t j [] ≡ getD t₀ j []
 
-module _ {F : ℕ → List ℕ → ℕ → Rows} {R : List (List ℕ) → ℕ → List ℕ → List ℕ → Type 0} {s : List ℕ} {at n : ℕ} {t₀ : List (List ℕ)} where
-  filling-none : at ≤ length s → Filling F R s at n t₀ t₀ at 0
+module _ {g : List ℕ → ℕ → Row} {R : List (List ℕ) → ℕ → List ℕ → List ℕ → Type 0} {s : List ℕ} {at n : ℕ} {t₀ : List (List ℕ)} where
+  pub filling-none : at ≤ length s → Filling g R s at n t₀ t₀ at 0
   filling-none h =
       record {
         done = [];
@@ -55,23 +56,27 @@ module _ {F : ℕ → List ℕ → ℕ → Rows} {R : List (List ℕ) → ℕ �
         slow = omega arith;
         within = h;
         long = refl;
-        rest = (let q : n - 0 ≡ n = omega arith in rw q (ahead-none (F n s at)));
+        rest = (let q : n - 0 ≡ n = omega arith in rw q (ahead-none (rowsAt g n s at)));
         row = λ j l m. absurd (omega arith);
         kept = λ j l. refl;
       }
 
-  module _ {t : List (List ℕ)} {i k : ℕ} (f : Filling F R s at n t₀ t i k) where
-    onward : (v : List ℕ) (i′ : ℕ) → k < n → ((m : ℕ) → F (suc m) s i ≡ also v (F m s i′)) → F n s at ≡ ahead (f .done ++ (v ∷ [])) (F (n - (k + 1)) s i′)
+  module _ {t : List (List ℕ)} {i k : ℕ} (f : Filling g R s at n t₀ t i k) where
+    -- the next row
+    to-next : k < n → rowsAt g n s at ≡ ahead (f .done) (onRow (g s i) (λ v e. also v (rowsAt g (n - (k + 1)) s e)))
+    unfolding rowsAt
+    to-next h = let q : n - k ≡ suc (n - (k + 1)) = omega arith in f .rest ∙ ap (λ (m : ℕ). ahead (f .done) (rowsAt g m s i)) q
+
+    onward : (v : List ℕ) (i′ : ℕ) → k < n → g s i ≡ fit v i′ → rowsAt g n s at ≡ ahead (f .done ++ (v ∷ [])) (rowsAt g (n - (k + 1)) s i′)
     onward v i′ h step =
-        let q : n - k ≡ suc (n - (k + 1)) = omega arith in
-        f .rest ∙ ap (λ (m : ℕ). ahead (f .done) (F m s i)) q ∙ ap (ahead (f .done)) (step (n - (k + 1))) ∙ ahead-also (f .done) v (F (n - (k + 1)) s i′)
+        to-next h ∙ ap (λ (r : Row). ahead (f .done) (onRow r (λ v e. also v (rowsAt g (n - (k + 1)) s e)))) step
+        ∙ ahead-also (f .done) v (rowsAt g (n - (k + 1)) s i′)
 
     one-more : (v : List ℕ) → length (f .done ++ (v ∷ [])) ≡ k + 1
     one-more v = length-append (f .done) (v ∷ []) ∙ (let q = f .many in omega arith)
 
     -- a row that has no room in the table
-    filling-past : (v : List ℕ) (i′ : ℕ) → k < n → length t ≤ k → k < i′ → i′ ≤ length s → ((m : ℕ) → F (suc m) s i ≡ also v (F m s i′))
-        → Filling F R s at n t₀ t i′ (k + 1)
+    filling-past : (v : List ℕ) (i′ : ℕ) → k < n → length t ≤ k → k < i′ → i′ ≤ length s → g s i ≡ fit v i′ → Filling g R s at n t₀ t i′ (k + 1)
     filling-past v i′ h p w l step =
         record {
           done = f .done ++ (v ∷ []);
@@ -87,8 +92,8 @@ module _ {F : ℕ → List ℕ → ℕ → Rows} {R : List (List ℕ) → ℕ �
         }
 
     -- a row that is put in the table as e
-    filling-next : (v : List ℕ) (i′ : ℕ) (e : List ℕ) → k < n → k < length t → k < i′ → i′ ≤ length s → ((m : ℕ) → F (suc m) s i ≡ also v (F m s i′))
-        → R t₀ k e v → Filling F R s at n t₀ (set t k e) i′ (k + 1)
+    filling-next : (v : List ℕ) (i′ : ℕ) (e : List ℕ) → k < n → k < length t → k < i′ → i′ ≤ length s → g s i ≡ fit v i′
+        → R t₀ k e v → Filling g R s at n t₀ (set t k e) i′ (k + 1)
     filling-next v i′ e h p w l step r =
         record {
           done = f .done ++ (v ∷ []);
@@ -112,129 +117,92 @@ module _ {F : ℕ → List ℕ → ℕ → Rows} {R : List (List ℕ) → ℕ �
             subst (λ (x : ℕ). R t₀ x (getD (set t k e) x []) (getD (f .done ++ (v ∷ [])) x [])) z
             (rw (getD-set-same t k e [] p, getD-at (f .done) v [] [] k (f .many)) r)
 
-    filling-broken : k < n → ((m : ℕ) → F (suc m) s i ≡ broken) → F n s at ≡ broken
+    filling-broken : k < n → g s i ≡ misfit → rowsAt g n s at ≡ broken
     filling-broken h step =
-        let q : n - k ≡ suc (n - (k + 1)) = omega arith in
-        f .rest ∙ ap (λ (m : ℕ). ahead (f .done) (F m s i)) q ∙ ap (ahead (f .done)) (step (n - (k + 1)))
+        to-next h ∙ ap (λ (r : Row). ahead (f .done) (onRow r (λ v e. also v (rowsAt g (n - (k + 1)) s e)))) step
 
-    filling-done : n ≤ k → F 0 s i ≡ rows [] i → F n s at ≡ rows (f .done) i
-    filling-done h e =
+    -- a section that is read to its end
+    filling-done : n ≤ k → (P : List (List ℕ) → Type 0) → P (f .done) → RowsBy P (section.Upto i) (rowsAt g n s at) (length s)
+    unfolding rowsAt
+    filling-done h P p =
         let q : n - k ≡ 0 = omega arith in
-        f .rest ∙ ap (λ (m : ℕ). ahead (f .done) (F m s i)) q ∙ ap (ahead (f .done)) e ∙ ap (λ (l : List (List ℕ)). rows l i) (append-none (f .done))
+        let e : rowsAt g n s at ≡ rows (f .done) i =
+        f .rest ∙ ap (λ (m : ℕ). ahead (f .done) (rowsAt g m s i)) q ∙ ap (λ (l : List (List ℕ)). rows l i) (append-none (f .done)) in
+        subst (λ (r : Rows). RowsBy P (section.Upto i) r (length s)) (sym e) (refl, f .within, p)
 
 -- the three sections' loops
 
 abbrev pub Naming : List ℕ → ℕ → ℕ → List (List ℕ) → List (List ℕ) → ℕ → ℕ → Type 0
-Naming s at n t₀ t i k = Filling namesAt (λ b j e v. take 3 e ≡ v) s at n t₀ t i k
+Naming s at n t₀ t i k = Filling nameAt (λ b j e v. take 3 e ≡ v) s at n t₀ t i k
 
 abbrev pub Bodying : List ℕ → ℕ → ℕ → List (List ℕ) → List (List ℕ) → ℕ → ℕ → Type 0
-Bodying s at n t₀ t i k = Filling bodiesAt (λ b j e w. e ≡ entryOf (getD b j []) w) s at n t₀ t i k
+Bodying s at n t₀ t i k = Filling bodyAt (λ b j e w. e ≡ entryOf (getD b j []) w) s at n t₀ t i k
 
 abbrev pub Starting : List ℕ → ℕ → ℕ → List (List ℕ) → List (List ℕ) → ℕ → ℕ → Type 0
-Starting s at n t₀ t i k = Filling startsAt (λ b j e v. e ≡ v) s at n t₀ t i k
+Starting s at n t₀ t i k = Filling startAt (λ b j e v. e ≡ v) s at n t₀ t i k
 
 neither : (a b : Bool) → (a || b) ≡ false → (a ≡ false) × (b ≡ false)
 neither true b e = (cc, cc)
 neither false b e = (refl, e)
 
-module _ {s : List ℕ} {at n : ℕ} {t₀ : List (List ℕ)} where
-  pub names-none : at ≤ length s → Naming s at n t₀ t₀ at 0
-  names-none h = filling-none h
-
-  pub bodies-none : at ≤ length s → Bodying s at n t₀ t₀ at 0
-  bodies-none h = filling-none h
-
-  pub starts-none : at ≤ length s → Starting s at n t₀ t₀ at 0
-  starts-none h = filling-none h
-
 module _ {s : List ℕ} {at n : ℕ} {t₀ t : List (List ℕ)} {i k : ℕ} (f : Naming s at n t₀ t i k) (h : k < n) {z p : ℕ} (q : z ≡ getD s (i + 1) 0) (r : p ≡ getD s i 0) where
-  pub names-broken : (ltb (length s) (i + 2 + z) || ltb 1 p) ≡ true → namesAt n s at ≡ broken
-  unfolding namesAt
-  names-broken e = filling-broken f h step
-    where
-      step : (m : ℕ) → namesAt (suc m) s i ≡ broken
-      step m = rw (← q, ← r, e)
+  pub names-broken : (ltb (length s) (i + 2 + z) || ltb 1 p) ≡ true → rowsAt nameAt n s at ≡ broken
+  names-broken e = filling-broken f h (rw (← q, ← r, e))
 
-  names-step : (ltb (length s) (i + 2 + z) || ltb 1 p) ≡ false → (m : ℕ) → namesAt (suc m) s i ≡ also (p ∷ (i + 2) ∷ z ∷ []) (namesAt m s (i + 2 + z))
-  unfolding namesAt
-  names-step e m = rw (← q, ← r, e)
+  name-row : (ltb (length s) (i + 2 + z) || ltb 1 p) ≡ false → nameAt s i ≡ fit (p ∷ (i + 2) ∷ z ∷ []) (i + 2 + z)
+  name-row e = rw (← q, ← r, e)
 
   pub names-past : (ltb (length s) (i + 2 + z) || ltb 1 p) ≡ false → length t ≤ k → Naming s at n t₀ t (i + 2 + z) (k + 1)
   names-past e l = let d = neither (ltb (length s) (i + 2 + z)) (ltb 1 p) e in let w = f .slow in
-      filling-past f (p ∷ (i + 2) ∷ z ∷ []) (i + 2 + z) h l (omega arith) (ltb-false _ _ (d .0)) (names-step e)
+      filling-past f (p ∷ (i + 2) ∷ z ∷ []) (i + 2 + z) h l (omega arith) (ltb-false _ _ (d .0)) (name-row e)
 
   pub names-next : {a b c : ℕ} → (ltb (length s) (i + 2 + z) || ltb 1 p) ≡ false → k < length t → a ≡ p → b ≡ i + 2 → c ≡ z
       → Naming s at n t₀ (set t k (a ∷ b ∷ c ∷ 0 ∷ 0 ∷ [])) (i + 2 + z) (k + 1)
   names-next {a} {b} {c} e l x y u = let d = neither (ltb (length s) (i + 2 + z)) (ltb 1 p) e in let w = f .slow in
-      filling-next f (p ∷ (i + 2) ∷ z ∷ []) (i + 2 + z) (a ∷ b ∷ c ∷ 0 ∷ 0 ∷ []) h l (omega arith) (ltb-false _ _ (d .0)) (names-step e) (cc)
+      filling-next f (p ∷ (i + 2) ∷ z ∷ []) (i + 2 + z) (a ∷ b ∷ c ∷ 0 ∷ 0 ∷ []) h l (omega arith) (ltb-false _ _ (d .0)) (name-row e) (cc)
 
 module _ {s : List ℕ} {at n : ℕ} {t₀ t : List (List ℕ)} {i k : ℕ} (f : Bodying s at n t₀ t i k) (h : k < n) {z : ℕ} (q : z ≡ twoAt s i) where
-  pub bodies-broken : length s < i + 2 + z → bodiesAt n s at ≡ broken
-  unfolding bodiesAt
-  bodies-broken e = filling-broken f h step
-    where
-      step : (m : ℕ) → bodiesAt (suc m) s i ≡ broken
-      step m = rw (← q, lt-ltb (length s) (i + 2 + z) e)
+  pub bodies-broken : length s < i + 2 + z → rowsAt bodyAt n s at ≡ broken
+  bodies-broken e = filling-broken f h (rw (← q, lt-ltb (length s) (i + 2 + z) e))
 
-  bodies-step : i + 2 + z ≤ length s → (m : ℕ) → bodiesAt (suc m) s i ≡ also ((i + 2) ∷ z ∷ []) (bodiesAt m s (i + 2 + z))
-  unfolding bodiesAt
-  bodies-step e m = rw (← q, le-ltb (length s) (i + 2 + z) e)
+  body-row : i + 2 + z ≤ length s → bodyAt s i ≡ fit ((i + 2) ∷ z ∷ []) (i + 2 + z)
+  body-row e = rw (← q, le-ltb (length s) (i + 2 + z) e)
 
   pub bodies-past : i + 2 + z ≤ length s → length t ≤ k → Bodying s at n t₀ t (i + 2 + z) (k + 1)
-  bodies-past e l = let w = f .slow in filling-past f ((i + 2) ∷ z ∷ []) (i + 2 + z) h l (omega arith) e (bodies-step e)
+  bodies-past e l = let w = f .slow in filling-past f ((i + 2) ∷ z ∷ []) (i + 2 + z) h l (omega arith) e (body-row e)
 
   pub bodies-next : {b c : ℕ} → i + 2 + z ≤ length s → k < length t → b ≡ i + 2 → c ≡ z
       → Bodying s at n t₀ (set t k (getD (getD t k []) 0 0 ∷ getD (getD t k []) 1 0 ∷ getD (getD t k []) 2 0 ∷ b ∷ c ∷ [])) (i + 2 + z) (k + 1)
   bodies-next {b} {c} e l y u = let w = f .slow in
-      filling-next f ((i + 2) ∷ z ∷ []) (i + 2 + z) (getD (getD t k []) 0 0 ∷ getD (getD t k []) 1 0 ∷ getD (getD t k []) 2 0 ∷ b ∷ c ∷ []) h l (omega arith) e (bodies-step e)
+      filling-next f ((i + 2) ∷ z ∷ []) (i + 2 + z) (getD (getD t k []) 0 0 ∷ getD (getD t k []) 1 0 ∷ getD (getD t k []) 2 0 ∷ b ∷ c ∷ []) h l (omega arith) e (body-row e)
       (rw (y, u, f .kept k (omega arith)))
 
 module _ {s : List ℕ} {at n : ℕ} {t₀ t : List (List ℕ)} {i k : ℕ} (f : Starting s at n t₀ t i k) (h : k < n) {z : ℕ} (q : z ≡ getD s i 0) where
-  pub starts-broken : length s < i + 1 + z → startsAt n s at ≡ broken
-  unfolding startsAt
-  starts-broken e = filling-broken f h step
-    where
-      step : (m : ℕ) → startsAt (suc m) s i ≡ broken
-      step m = rw (← q, lt-ltb (length s) (i + 1 + z) e)
+  pub starts-broken : length s < i + 1 + z → rowsAt startAt n s at ≡ broken
+  starts-broken e = filling-broken f h (rw (← q, lt-ltb (length s) (i + 1 + z) e))
 
-  starts-step : i + 1 + z ≤ length s → (m : ℕ) → startsAt (suc m) s i ≡ also ((i + 1) ∷ z ∷ []) (startsAt m s (i + 1 + z))
-  unfolding startsAt
-  starts-step e m = rw (← q, le-ltb (length s) (i + 1 + z) e)
+  start-row : i + 1 + z ≤ length s → startAt s i ≡ fit ((i + 1) ∷ z ∷ []) (i + 1 + z)
+  start-row e = rw (← q, le-ltb (length s) (i + 1 + z) e)
 
   pub starts-past : i + 1 + z ≤ length s → length t ≤ k → Starting s at n t₀ t (i + 1 + z) (k + 1)
-  starts-past e l = let w = f .slow in filling-past f ((i + 1) ∷ z ∷ []) (i + 1 + z) h l (omega arith) e (starts-step e)
+  starts-past e l = let w = f .slow in filling-past f ((i + 1) ∷ z ∷ []) (i + 1 + z) h l (omega arith) e (start-row e)
 
   pub starts-next : {b c : ℕ} → i + 1 + z ≤ length s → k < length t → b ≡ i + 1 → c ≡ z
       → Starting s at n t₀ (set t k (b ∷ c ∷ [])) (i + 1 + z) (k + 1)
   starts-next {b} {c} e l y u = let w = f .slow in
-      filling-next f ((i + 1) ∷ z ∷ []) (i + 1 + z) (b ∷ c ∷ []) h l (omega arith) e (starts-step e) (cc)
+      filling-next f ((i + 1) ∷ z ∷ []) (i + 1 + z) (b ∷ c ∷ []) h l (omega arith) e (start-row e) (cc)
 
--- a section that is read to its end
+module _ {s : List ℕ} {at n : ℕ} {t₀ t : List (List ℕ)} {i k : ℕ} (h : n ≤ k) where
+  pub names-done : Naming s at n t₀ t i k → NamesBy (section.Upto i) (rowsAt nameAt n s at) (length s) t
+  names-done f =
+      let m = f .many in
+      filling-done f h (λ vs. NamesIn vs (length vs) t) (record { count = refl; row = λ j a b. f .row j (omega arith) b })
 
-pub names-done : {s : List ℕ} {at n : ℕ} {t₀ t : List (List ℕ)} {i k : ℕ} → Naming s at n t₀ t i k → n ≤ k
-    → NamesBy (section.Upto i) (namesAt n s at) (length s) t
-unfolding namesAt
-names-done {s} {at} {n} {t₀} {t} {i} {k} f h =
-    let m = f .many in
-    subst (λ (r : Rows). NamesBy (section.Upto i) r (length s) t) (sym (filling-done f h refl))
-    (refl, f .within, record { count = refl; row = λ j a b. f .row j (omega arith) b })
+  pub bodies-done : Bodying s at n t₀ t i k → BodiesBy (section.Upto i) (rowsAt bodyAt n s at) (length s) t₀ t
+  bodies-done f = let m = f .many in let l = f .long in filling-done f h (λ ws. BodiesIn ws t₀ t) (λ j a b. f .row j (omega arith) (omega arith))
 
-pub bodies-done : {s : List ℕ} {at n : ℕ} {t₀ t : List (List ℕ)} {i k : ℕ} → Bodying s at n t₀ t i k → n ≤ k
-    → BodiesBy (section.Upto i) (bodiesAt n s at) (length s) t₀ t
-unfolding bodiesAt
-bodies-done {s} {at} {n} {t₀} {t} {i} {k} f h =
-    let m = f .many in
-    let l = f .long in
-    subst (λ (r : Rows). BodiesBy (section.Upto i) r (length s) t₀ t) (sym (filling-done f h refl))
-    (refl, f .within, λ j a b. f .row j (omega arith) (omega arith))
-
-pub starts-done : {s : List ℕ} {at n : ℕ} {t₀ t : List (List ℕ)} {i k : ℕ} → Starting s at n t₀ t i k → n ≤ k
-    → StartsBy (section.Upto i) (startsAt n s at) (length s) t
-unfolding startsAt
-starts-done {s} {at} {n} {t₀} {t} {i} {k} f h =
-    let m = f .many in
-    subst (λ (r : Rows). StartsBy (section.Upto i) r (length s) t) (sym (filling-done f h refl))
-    (refl, f .within, λ j a b. f .row j (omega arith) b)
+  pub starts-done : Starting s at n t₀ t i k → StartsBy (section.Upto i) (rowsAt startAt n s at) (length s) t
+  starts-done f = let m = f .many in filling-done f h (λ us. StartsIn us t) (λ j a b. f .row j (omega arith) b)
 
 -- a section of n rows has n rows
 data Counted : ℕ → Rows → Type 0 where
@@ -245,59 +213,28 @@ also-counted : {n : ℕ} {r : Rows} (v : List ℕ) → Counted n r → Counted (
 also-counted v none = none
 also-counted v (some q) = some (ap suc q)
 
-cond-counted : {n : ℕ} {r : Rows} (b : Bool) → Counted n r → Counted n (cond b broken r)
-cond-counted true c = none
-cond-counted false c = c
-
 counted : {n : ℕ} {vs : List (List ℕ)} {e : ℕ} → Counted n (rows vs e) → length vs ≡ n
 counted (some q) = q
 
-names-counted : (n : ℕ) (s : List ℕ) (i : ℕ) → Counted n (namesAt n s i)
-unfolding namesAt
-names-counted zero s i = some refl
-names-counted (suc n) s i = let z = getD s (i + 1) 0 in cond-counted (ltb (length s) (i + 2 + z) || ltb 1 (getD s i 0)) (also-counted (getD s i 0 ∷ (i + 2) ∷ z ∷ []) (names-counted n s (i + 2 + z)))
-
-bodies-counted : (n : ℕ) (s : List ℕ) (i : ℕ) → Counted n (bodiesAt n s i)
-unfolding bodiesAt
-bodies-counted zero s i = some refl
-bodies-counted (suc n) s i = let z = twoAt s i in cond-counted (ltb (length s) (i + 2 + z)) (also-counted ((i + 2) ∷ z ∷ []) (bodies-counted n s (i + 2 + z)))
-
-starts-counted : (n : ℕ) (s : List ℕ) (i : ℕ) → Counted n (startsAt n s i)
-unfolding startsAt
-starts-counted zero s i = some refl
-starts-counted (suc n) s i = let z = getD s i 0 in cond-counted (ltb (length s) (i + 1 + z)) (also-counted ((i + 1) ∷ z ∷ []) (starts-counted n s (i + 1 + z)))
+rows-counted : (g : List ℕ → ℕ → Row) (n : ℕ) (s : List ℕ) (i : ℕ) → Counted n (rowsAt g n s i)
+unfolding rowsAt
+rows-counted g zero s i = some refl
+rows-counted g (suc n) s i = go (g s i) (λ e. rows-counted g n s e)
+  where
+    go : (r : Row) → ((e : ℕ) → Counted n (rowsAt g n s e)) → Counted (suc n) (onRow r (λ v e. also v (rowsAt g n s e)))
+    go misfit c = none
+    go (fit v e) c = also-counted v (c e)
 
 -- the rows of a section that is told to be whole
-
-record Named (r : Rows) (i last : ℕ) (t : List (List ℕ)) : Type 0 where
+record Whole (P : List (List ℕ) → Type 0) (r : Rows) (i last : ℕ) : Type 0 where
   vs : List (List ℕ)
   shape : r ≡ rows vs i
   within : i ≤ last
-  names : NamesIn vs (length vs) t
+  holds : P vs
 
-named : (r : Rows) (i last : ℕ) (t : List (List ℕ)) → NamesBy (section.Upto i) r last t → Named r i last t
-named broken i last t h = absurd h
-named (rows vs e) i last t h = record { vs = vs; shape = ap (rows vs) (h .0); within = h .1; names = h .2 }
-
-record Bodied (r : Rows) (i last : ℕ) (t t′ : List (List ℕ)) : Type 0 where
-  ws : List (List ℕ)
-  shape : r ≡ rows ws i
-  within : i ≤ last
-  row : (k : ℕ) → k < length ws → k < length t → getD t′ k [] ≡ entryOf (getD t k []) (getD ws k [])
-
-bodied : (r : Rows) (i last : ℕ) (t t′ : List (List ℕ)) → BodiesBy (section.Upto i) r last t t′ → Bodied r i last t t′
-bodied broken i last t t′ h = absurd h
-bodied (rows ws e) i last t t′ h = record { ws = ws; shape = ap (rows ws) (h .0); within = h .1; row = h .2 }
-
-record Started (r : Rows) (i last : ℕ) (b : List (List ℕ)) : Type 0 where
-  us : List (List ℕ)
-  shape : r ≡ rows us i
-  within : i ≤ last
-  row : (k : ℕ) → k < length us → k < length b → getD b k [] ≡ getD us k []
-
-started : (r : Rows) (i last : ℕ) (b : List (List ℕ)) → StartsBy (section.Upto i) r last b → Started r i last b
-started broken i last b h = absurd h
-started (rows us e) i last b h = record { us = us; shape = ap (rows us) (h .0); within = h .1; row = h .2 }
+whole : (P : List (List ℕ) → Type 0) (r : Rows) (i last : ℕ) → RowsBy P (section.Upto i) r last → Whole P r i last
+whole P broken i last h = absurd h
+whole P (rows vs e) i last h = record { vs = vs; shape = ap (rows vs) (h .0); within = h .1; holds = h .2 }
 
 -- the entries of names' and bodies' rows
 
@@ -326,16 +263,16 @@ rest-short s at n vs h = rw (lt-ltb (length s) (at + 2) h)
 pub rest-other : (s : List ℕ) (at n : ℕ) (vs : List (List ℕ)) {z : ℕ} → at + 2 ≤ length s → z ≡ twoAt s at → (z ≡ n → ⊥) → withNames s n (rows vs at) ≡ unformed
 rest-other s at n vs h p q = rw (le-ltb (length s) (at + 2) h, ← p, ne-eqb _ n q)
 
-to-bodies : (s : List ℕ) (at n : ℕ) (vs : List (List ℕ)) {z : ℕ} → at + 2 ≤ length s → z ≡ twoAt s at → z ≡ n → withNames s n (rows vs at) ≡ withBodies s vs (bodiesAt n s (at + 2))
+to-bodies : (s : List ℕ) (at n : ℕ) (vs : List (List ℕ)) {z : ℕ} → at + 2 ≤ length s → z ≡ twoAt s at → z ≡ n → withNames s n (rows vs at) ≡ withBodies s vs (rowsAt bodyAt n s (at + 2))
 to-bodies s at n vs {z} h p q = rw (le-ltb (length s) (at + 2) h, ← p, eq-eqb z n q)
 
-module _ (s : List ℕ) (at n : ℕ) (t t′ : List (List ℕ)) {z : ℕ} (h : at + 2 ≤ length s) (p : z ≡ twoAt s at) (q : z ≡ n) {r : Section} (b : BodiesBy r (bodiesAt n s (at + 2)) (length s) t t′) where
+module _ (s : List ℕ) (at n : ℕ) (t t′ : List (List ℕ)) {z : ℕ} (h : at + 2 ≤ length s) (p : z ≡ twoAt s at) (q : z ≡ n) {r : Section} (b : BodiesBy r (rowsAt bodyAt n s (at + 2)) (length s) t t′) where
   pub rest-unbodied : r ≡ section.Broken → (vs : List (List ℕ)) → withNames s n (rows vs at) ≡ unformed
-  rest-unbodied e vs = to-bodies s at n vs h p q ∙ ap (withBodies s vs) (subst (λ (x : Section). BodiesBy x (bodiesAt n s (at + 2)) (length s) t t′) e b)
+  rest-unbodied e vs = to-bodies s at n vs h p q ∙ ap (withBodies s vs) (subst (λ (x : Section). BodiesBy x (rowsAt bodyAt n s (at + 2)) (length s) t t′) e b)
 
   module _ {j : ℕ} (e : r ≡ section.Upto j) where
-    the-bodies : Bodied (bodiesAt n s (at + 2)) j (length s) t t′
-    the-bodies = bodied _ _ _ _ _ (subst (λ (x : Section). BodiesBy x (bodiesAt n s (at + 2)) (length s) t t′) e b)
+    the-bodies : Whole (λ ws. BodiesIn ws t t′) (rowsAt bodyAt n s (at + 2)) j (length s)
+    the-bodies = whole _ _ _ _ (subst (λ (x : Section). BodiesBy x (rowsAt bodyAt n s (at + 2)) (length s) t t′) e b)
 
     pub rest-within : j ≤ length s
     rest-within = the-bodies .within
@@ -343,46 +280,46 @@ module _ (s : List ℕ) (at n : ℕ) (t t′ : List (List ℕ)) {z : ℕ} (h : a
     pub rest-cut : length s < j + 2 → (vs : List (List ℕ)) → withNames s n (rows vs at) ≡ unformed
     rest-cut l vs = to-bodies s at n vs h p q ∙ ap (withBodies s vs) (the-bodies .shape) ∙ rw (lt-ltb (length s) (j + 2) l)
 
-    to-starts : {m : ℕ} → j + 2 ≤ length s → m ≡ twoAt s j → (vs : List (List ℕ)) → withNames s n (rows vs at) ≡ withStarts s vs (the-bodies .ws) (startsAt m s (j + 2))
+    to-starts : {m : ℕ} → j + 2 ≤ length s → m ≡ twoAt s j → (vs : List (List ℕ)) → withNames s n (rows vs at) ≡ withStarts s vs (the-bodies .vs) (rowsAt startAt m s (j + 2))
     to-starts l g vs = to-bodies s at n vs h p q ∙ ap (withBodies s vs) (the-bodies .shape) ∙ rw (le-ltb (length s) (j + 2) l, ← g)
 
-    module _ (u′ : List (List ℕ)) {m : ℕ} (l : j + 2 ≤ length s) (g : m ≡ twoAt s j) {v : Section} (d : StartsBy v (startsAt m s (j + 2)) (length s) u′) where
+    module _ (u′ : List (List ℕ)) {m : ℕ} (l : j + 2 ≤ length s) (g : m ≡ twoAt s j) {v : Section} (d : StartsBy v (rowsAt startAt m s (j + 2)) (length s) u′) where
       pub rest-unstarted : v ≡ section.Broken → (vs : List (List ℕ)) → withNames s n (rows vs at) ≡ unformed
-      rest-unstarted x vs = to-starts l g vs ∙ ap (withStarts s vs (the-bodies .ws)) (subst (λ (y : Section). StartsBy y (startsAt m s (j + 2)) (length s) u′) x d)
+      rest-unstarted x vs = to-starts l g vs ∙ ap (withStarts s vs (the-bodies .vs)) (subst (λ (y : Section). StartsBy y (rowsAt startAt m s (j + 2)) (length s) u′) x d)
 
       module _ {i : ℕ} (x : v ≡ section.Upto i) where
-        the-starts : Started (startsAt m s (j + 2)) i (length s) u′
-        the-starts = started _ _ _ _ (subst (λ (y : Section). StartsBy y (startsAt m s (j + 2)) (length s) u′) x d)
+        the-starts : Whole (λ us. StartsIn us u′) (rowsAt startAt m s (j + 2)) i (length s)
+        the-starts = whole _ _ _ _ (subst (λ (y : Section). StartsBy y (rowsAt startAt m s (j + 2)) (length s) u′) x d)
 
         pub rest-longer : (i ≡ length s → ⊥) → (vs : List (List ℕ)) → withNames s n (rows vs at) ≡ unformed
-        rest-longer y vs = to-starts l g vs ∙ ap (withStarts s vs (the-bodies .ws)) (the-starts .shape) ∙ rw (ne-eqb i (length s) y)
+        rest-longer y vs = to-starts l g vs ∙ ap (withStarts s vs (the-bodies .vs)) (the-starts .shape) ∙ rw (ne-eqb i (length s) y)
 
         pub rest-whole : {a c : ℕ} → i ≡ length s → a ≡ min n (length t′) → c ≡ min m (length u′) → length t′ ≡ length t
             → (vs : List (List ℕ)) → NamesIn vs n t → FillsBoth (withNames s n (rows vs at)) t′ u′ a c
         rest-whole y aq cq len vs names =
             let B = the-bodies in
             let U = the-starts in
-            let wn : length (B .ws) ≡ n = counted (subst (Counted n) (B .shape) (bodies-counted n s (at + 2))) in
-            let un : length (U .us) ≡ m = counted (subst (Counted m) (U .shape) (starts-counted m s (j + 2))) in
+            let wn : length (B .vs) ≡ n = counted (subst (Counted n) (B .shape) (rows-counted bodyAt n s (at + 2))) in
+            let un : length (U .vs) ≡ m = counted (subst (Counted m) (U .shape) (rows-counted startAt m s (j + 2))) in
             let vn = names .count in
-            let en = entries-length vs (B .ws) (omega arith) in
+            let en = entries-length vs (B .vs) (omega arith) in
             record {
-              entries = entriesOf vs (B .ws);
-              names = U .us;
-              shape = to-starts l g vs ∙ ap (withStarts s vs (B .ws)) (U .shape) ∙ rw (eq-eqb i (length s) y);
+              entries = entriesOf vs (B .vs);
+              names = U .vs;
+              shape = to-starts l g vs ∙ ap (withStarts s vs (B .vs)) (U .shape) ∙ rw (eq-eqb i (length s) y);
               table-is = record {
                 within = omega arith;
                 few = omega arith;
                 all = λ k. omega arith;
-                row = λ k o. B .row k (omega arith) (omega arith)
-                    ∙ entry-front (getD t k []) (getD vs k []) (getD (B .ws) k []) (names .row k (omega arith) (omega arith))
-                    ∙ sym (entries-row vs (B .ws) k (omega arith) (omega arith));
+                row = λ k o. B .holds k (omega arith) (omega arith)
+                    ∙ entry-front (getD t k []) (getD vs k []) (getD (B .vs) k []) (names .row k (omega arith) (omega arith))
+                    ∙ sym (entries-row vs (B .vs) k (omega arith) (omega arith));
               };
               starts-are = record {
                 within = omega arith;
                 few = omega arith;
                 all = λ k. omega arith;
-                row = λ k o. U .row k (omega arith) (omega arith);
+                row = λ k o. U .holds k (omega arith) (omega arith);
               };
             }
 
@@ -392,17 +329,17 @@ pub parse-short : (s : List ℕ) → length s < 2 → inputOf s ≡ unformed
 unfolding inputOf
 parse-short s h = rw (lt-ltb (length s) 2 h)
 
-to-names : (s : List ℕ) {n : ℕ} → 2 ≤ length s → n ≡ twoAt s 0 → inputOf s ≡ withNames s n (namesAt n s 2)
+to-names : (s : List ℕ) {n : ℕ} → 2 ≤ length s → n ≡ twoAt s 0 → inputOf s ≡ withNames s n (rowsAt nameAt n s 2)
 unfolding inputOf
 to-names s h p = rw (le-ltb (length s) 2 h, ← p)
 
-module _ (s : List ℕ) (t : List (List ℕ)) {n : ℕ} (h : 2 ≤ length s) (p : n ≡ twoAt s 0) {r : Section} (b : NamesBy r (namesAt n s 2) (length s) t) where
+module _ (s : List ℕ) (t : List (List ℕ)) {n : ℕ} (h : 2 ≤ length s) (p : n ≡ twoAt s 0) {r : Section} (b : NamesBy r (rowsAt nameAt n s 2) (length s) t) where
   pub parse-unnamed : r ≡ section.Broken → inputOf s ≡ unformed
-  parse-unnamed e = to-names s h p ∙ ap (withNames s n) (subst (λ (x : Section). NamesBy x (namesAt n s 2) (length s) t) e b)
+  parse-unnamed e = to-names s h p ∙ ap (withNames s n) (subst (λ (x : Section). NamesBy x (rowsAt nameAt n s 2) (length s) t) e b)
 
   module _ {i : ℕ} (e : r ≡ section.Upto i) where
-    the-names : Named (namesAt n s 2) i (length s) t
-    the-names = named _ _ _ _ (subst (λ (x : Section). NamesBy x (namesAt n s 2) (length s) t) e b)
+    the-names : Whole (λ vs. NamesIn vs (length vs) t) (rowsAt nameAt n s 2) i (length s)
+    the-names = whole _ _ _ _ (subst (λ (x : Section). NamesBy x (rowsAt nameAt n s 2) (length s) t) e b)
 
     pub parse-within : i ≤ length s
     parse-within = the-names .within
@@ -410,6 +347,6 @@ module _ (s : List ℕ) (t : List (List ℕ)) {n : ℕ} (h : 2 ≤ length s) (p 
     pub parse-whole : (w : Parsed) (t′ u′ : List (List ℕ)) → ((vs : List (List ℕ)) → NamesIn vs n t → ParsedBy w (withNames s n (rows vs i)) t′ u′) → ParsedBy w (inputOf s) t′ u′
     parse-whole w t′ u′ f =
         let N = the-names in
-        let c : length (N .vs) ≡ n = counted (subst (Counted n) (N .shape) (names-counted n s 2)) in
+        let c : length (N .vs) ≡ n = counted (subst (Counted n) (N .shape) (rows-counted nameAt n s 2)) in
         subst (λ (x : Input). ParsedBy w x t′ u′) (sym (to-names s h p ∙ ap (withNames s n) (N .shape)))
-        (f (N .vs) (subst (λ (x : ℕ). NamesIn (N .vs) x t) c (N .names)))
+        (f (N .vs) (subst (λ (x : ℕ). NamesIn (N .vs) x t) c (N .holds)))

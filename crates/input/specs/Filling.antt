@@ -22,24 +22,27 @@ pub record NamesIn (vs : List (List ℕ)) (n : ℕ) (table : List (List ℕ)) : 
   pub count : length vs ≡ n
   pub row : (k : ℕ) → k < n → k < length table → take 3 (getD table k []) ≡ getD vs k []
 
+-- a section is read to its end, and P holds of its rows; or it is not of the form
+abbrev pub RowsBy : (List (List ℕ) → Type 0) → Section → Rows → ℕ → Type 0
+RowsBy P (section.Upto e) broken last = ⊥
+RowsBy P (section.Upto e) (rows vs i) last = (i ≡ e) × (e ≤ last) × P vs
+RowsBy P section.Broken r last = r ≡ broken
+
 abbrev pub NamesBy : Section → Rows → ℕ → List (List ℕ) → Type 0
-NamesBy (section.Upto e) broken last table = ⊥
-NamesBy (section.Upto e) (rows vs i) last table = (i ≡ e) × (e ≤ last) × NamesIn vs (length vs) table
-NamesBy section.Broken r last table = r ≡ broken
+NamesBy x r last table = RowsBy (λ vs. NamesIn vs (length vs) table) x r last
 
 -- the bodies' rows stand behind them
+abbrev pub BodiesIn : List (List ℕ) → List (List ℕ) → List (List ℕ) → Type 0
+BodiesIn ws t t′ = (k : ℕ) → k < length ws → k < length t → getD t′ k [] ≡ entryOf (getD t k []) (getD ws k [])
+
 abbrev pub BodiesBy : Section → Rows → ℕ → List (List ℕ) → List (List ℕ) → Type 0
-BodiesBy (section.Upto e) broken last t t′ = ⊥
-BodiesBy (section.Upto e) (rows ws i) last t t′ =
-    (i ≡ e) × (e ≤ last)
-    × ((k : ℕ) → k < length ws → k < length t → getD t′ k [] ≡ entryOf (getD t k []) (getD ws k []))
-BodiesBy section.Broken r last t t′ = r ≡ broken
+BodiesBy x r last t t′ = RowsBy (λ ws. BodiesIn ws t t′) x r last
+
+abbrev pub StartsIn : List (List ℕ) → List (List ℕ) → Type 0
+StartsIn us b = (k : ℕ) → k < length us → k < length b → getD b k [] ≡ getD us k []
 
 abbrev pub StartsBy : Section → Rows → ℕ → List (List ℕ) → Type 0
-StartsBy (section.Upto e) broken last b = ⊥
-StartsBy (section.Upto e) (rows us i) last b =
-    (i ≡ e) × (e ≤ last) × ((k : ℕ) → k < length us → k < length b → getD b k [] ≡ getD us k [])
-StartsBy section.Broken r last b = r ≡ broken
+StartsBy x r last b = RowsBy (λ us. StartsIn us b) x r last
 
 -- the table and the start macros of an input, or that it is not of the form
 pub record FillsBoth (i : Input) (table starts : List (List ℕ)) (n m : ℕ) : Type 0 where

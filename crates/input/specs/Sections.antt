@@ -1,14 +1,11 @@
 -- The printing program's input (01): "low byte first, three sections each after a two-byte count".
 -- Assumes nothing.
-use Prim.Native.Nat.{ℕ, zero, suc, _+_, _*_}
-use mathlib.Core.Bool.{Bool, cond, _||_}
+use Prim.Native.Nat.{ℕ, zero, suc, _+_}
+use mathlib.Core.Bool.{cond, _||_}
 use mathlib.Core.List.{List, [], _∷_}
 use lib.Dec.{eqb, ltb}
 use lib.ListN.{length, getD}
-
--- two bytes, low first
-abbrev pub twoAt : List ℕ → ℕ → ℕ
-twoAt s i = getD s i 0 + 256 * getD s (i + 1) 0
+use Rattle.text.specs.Bytes.{twoAt}
 
 -- rows of numbers and where they end in the input, or it is not of the form
 pub data Rows : Type 0 where
@@ -19,29 +16,33 @@ abbrev pub also : List ℕ → Rows → Rows
 also v broken = broken
 also v (rows vs e) = rows (v ∷ vs) e
 
--- n names from i on: "form 0 quoted or 1 angle, length byte, name"; form, start and length of each
-unfoldable pub namesAt : ℕ → List ℕ → ℕ → Rows
-namesAt zero s i = rows [] i
-namesAt (suc n) s i =
+-- one row and where it ends in the input, or it is not of the form
+pub data Row : Type 0 where
+  misfit : Row
+  fit : List ℕ → ℕ → Row
+
+abbrev pub onRow : Row → (List ℕ → ℕ → Rows) → Rows
+onRow misfit go = broken
+onRow (fit v e) go = go v e
+
+-- n rows from i on, each as f reads it
+unfoldable pub rowsAt : (List ℕ → ℕ → Row) → ℕ → List ℕ → ℕ → Rows
+rowsAt f zero s i = rows [] i
+rowsAt f (suc n) s i = onRow (f s i) (λ v e. also v (rowsAt f n s e))
+
+-- a name: "form 0 quoted or 1 angle, length byte, name"; its form, start and length
+abbrev pub nameAt : List ℕ → ℕ → Row
+nameAt s i =
     let size = getD s (i + 1) 0 in
-    let r = namesAt n s (i + 2 + size) in
-    cond (ltb (length s) (i + 2 + size) || ltb 1 (getD s i 0)) broken (also (getD s i 0 ∷ (i + 2) ∷ size ∷ []) r)
+    cond (ltb (length s) (i + 2 + size) || ltb 1 (getD s i 0)) misfit (fit (getD s i 0 ∷ (i + 2) ∷ size ∷ []) (i + 2 + size))
 
--- n bodies: "two-byte length, bytes"; start and length of each
-unfoldable pub bodiesAt : ℕ → List ℕ → ℕ → Rows
-bodiesAt zero s i = rows [] i
-bodiesAt (suc n) s i =
-    let size = twoAt s i in
-    let r = bodiesAt n s (i + 2 + size) in
-    cond (ltb (length s) (i + 2 + size)) broken (also ((i + 2) ∷ size ∷ []) r)
+-- a body: "two-byte length, bytes"; its start and length
+abbrev pub bodyAt : List ℕ → ℕ → Row
+bodyAt s i = let size = twoAt s i in cond (ltb (length s) (i + 2 + size)) misfit (fit ((i + 2) ∷ size ∷ []) (i + 2 + size))
 
--- n macro names: "length byte, name"
-unfoldable pub startsAt : ℕ → List ℕ → ℕ → Rows
-startsAt zero s i = rows [] i
-startsAt (suc n) s i =
-    let size = getD s i 0 in
-    let r = startsAt n s (i + 1 + size) in
-    cond (ltb (length s) (i + 1 + size)) broken (also ((i + 1) ∷ size ∷ []) r)
+-- a macro name: "length byte, name"
+abbrev pub startAt : List ℕ → ℕ → Row
+startAt s i = let size = getD s i 0 in cond (ltb (length s) (i + 1 + size)) misfit (fit ((i + 1) ∷ size ∷ []) (i + 1 + size))
 
 -- an entry of the include table, of a name's row and a body's
 abbrev pub entryOf : List ℕ → List ℕ → List ℕ
@@ -65,14 +66,14 @@ withStarts s vs ws (rows us e) = cond (eqb e (length s)) (formed (entriesOf vs w
 abbrev pub withBodies : List ℕ → List (List ℕ) → Rows → Input
 withBodies s vs broken = unformed
 withBodies s vs (rows ws e) =
-    cond (ltb (length s) (e + 2)) unformed (withStarts s vs ws (startsAt (twoAt s e) s (e + 2)))
+    cond (ltb (length s) (e + 2)) unformed (withStarts s vs ws (rowsAt startAt (twoAt s e) s (e + 2)))
 
 -- "bodies .., as many as names"
 abbrev pub withNames : List ℕ → ℕ → Rows → Input
 withNames s n broken = unformed
 withNames s n (rows vs e) =
     cond (ltb (length s) (e + 2)) unformed
-    (cond (eqb (twoAt s e) n) (withBodies s vs (bodiesAt n s (e + 2))) unformed)
+    (cond (eqb (twoAt s e) n) (withBodies s vs (rowsAt bodyAt n s (e + 2))) unformed)
 
 unfoldable pub inputOf : List ℕ → Input
-inputOf s = cond (ltb (length s) 2) unformed (withNames s (twoAt s 0) (namesAt (twoAt s 0) s 2))
+inputOf s = cond (ltb (length s) 2) unformed (withNames s (twoAt s 0) (rowsAt nameAt (twoAt s 0) s 2))

@@ -3,9 +3,10 @@ ghost use mathlib.Core.Path.{_≡_};
 ghost use mathlib.Core.List.{List};
 ghost use Prim.Native.Nat.{ℕ, min, _+_, _<_, _≤_};
 ghost use lib.ListN.{length};
-ghost use Rattle.input.specs.Sections.{twoAt, rows, namesAt, bodiesAt, startsAt, withNames, inputOf};
+ghost use Rattle.input.specs.Sections.{rows, rowsAt, nameAt, bodyAt, startAt, withNames, inputOf};
 ghost use Rattle.input.specs.Filling.{NamesIn, NamesBy, BodiesBy, StartsBy, ParsedBy};
 use text::peek;
+use text::two_at;
 
 // How many files and start macros of an input stand in the lent table and ranges; or it is not of the form.
 pub enum Parsed {
@@ -32,18 +33,10 @@ fn to_u32(x: usize) -> u32
     x as u32
 }
 
-// Two bytes, low first; those past the end 0.
-fn two_at(s: &[u8], at: usize) -> usize
-    requires { ⌜ at ≤ 1073741824 ⌝ }
-    ensures { λ r. ⌜ (r ≡ twoAt (now (s .entry)) at) × (r < 65536) ⌝ }
-{
-    wide(peek(s, at)) + 256 * wide(peek(s, at + 1))
-}
-
 // Fills in the names from `at` on, `n` of them.
 fn parse_names(s: &[u8], at: usize, n: usize, table: &mut [[u32; 5]]) -> Section
     requires { ⌜ (length (now s) ≤ 1000000) × (at ≤ length (now s)) ⌝ }
-    ensures { λ r. ⌜ NamesBy r (namesAt n (now (s .entry)) at) (length (now (s .entry))) (now (table .exit)) ⌝ }
+    ensures { λ r. ⌜ NamesBy r (rowsAt nameAt n (now (s .entry)) at) (length (now (s .entry))) (now (table .exit)) ⌝ }
 {
     let mut i = at;
     let mut k = 0;
@@ -67,7 +60,7 @@ fn parse_names(s: &[u8], at: usize, n: usize, table: &mut [[u32; 5]]) -> Section
 // Fills in the bodies.
 fn parse_bodies(s: &[u8], at: usize, n: usize, table: &mut [[u32; 5]]) -> Section
     requires { ⌜ (length (now s) ≤ 1000000) × (at ≤ length (now s)) ⌝ }
-    ensures { λ r. ⌜ BodiesBy r (bodiesAt n (now (s .entry)) at) (length (now (s .entry))) (now (table .entry)) (now (table .exit)) ⌝ }
+    ensures { λ r. ⌜ BodiesBy r (rowsAt bodyAt n (now (s .entry)) at) (length (now (s .entry))) (now (table .entry)) (now (table .exit)) ⌝ }
 {
     let mut i = at;
     let mut k = 0;
@@ -92,7 +85,7 @@ fn parse_bodies(s: &[u8], at: usize, n: usize, table: &mut [[u32; 5]]) -> Sectio
 // Fills in the ranges of the macro names.
 fn parse_starts(s: &[u8], at: usize, n: usize, starts: &mut [[u32; 2]]) -> Section
     requires { ⌜ (length (now s) ≤ 1000000) × (at ≤ length (now s)) ⌝ }
-    ensures { λ r. ⌜ StartsBy r (startsAt n (now (s .entry)) at) (length (now (s .entry))) (now (starts .exit)) ⌝ }
+    ensures { λ r. ⌜ StartsBy r (rowsAt startAt n (now (s .entry)) at) (length (now (s .entry))) (now (starts .exit)) ⌝ }
 {
     let mut i = at;
     let mut k = 0;

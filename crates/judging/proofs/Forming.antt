@@ -21,8 +21,9 @@ use Rattle.storing.specs.Stored.{joinedFrom, piece, pieces}
 use Rattle.storing.proofs.Joining.{pieces-out, pieces-past, pieces-stop, pieces-next}
 use Rattle.afresh.proofs.Sorts.{or-true}
 use Rattle.afresh.proofs.Quoting.{string-past}
-use Rattle.judging.proofs.Shapes.{isSharp, Spaced, isSlashed, isMark, Made, none, some, mild, line, string, quote, joiner, mark, word, slash, solid, slanted, mild-by}
-use Rattle.judging.proofs.Settling.{run-made, run-after, string-closed, Stop, out, space, turn, Spans, spans, named-fits, part-length, taken-unmarked}
+use Rattle.afresh.proofs.Marking.{isQuoting}
+use Rattle.judging.proofs.Shapes.{isSharp, Spaced, isSlashed, Made, none, some, mild, line, string, quote, joiner, mark, word, slash, solid, slanted, mild-by}
+use Rattle.judging.proofs.Scanning.{run-made, run-after, string-closed, Stop, out, space, turn, Spans, spans, named-fits, part-length, taken-unmarked}
 
 -- such text, which also has no `/` or `*` first unless the byte y has one
 pub record Formed (b : Bool) (y : ℕ) (p : List ℕ) : Type 0 where
@@ -76,7 +77,7 @@ module _ (s : List ℕ) (x : ℕ) where
       stop-rest (space h) = space-rest h
       stop-rest (turn h k) = turn-rest h k
 
-  spaced-at : (e : ℕ) → Stop s e → Spaced (rest false e)
+  pub spaced-at : (e : ℕ) → Stop s e → Spaced (rest false e)
   spaced-at e k = go (leb (length s) e) (ltb e x) refl refl
     where
       go : (a c : Bool) → leb (length s) e ≡ a → ltb e x ≡ c → Spaced (rest false e)
@@ -205,7 +206,7 @@ module _ (s : List ℕ) (x : ℕ) where
         let h : i + 1 < length s = read-within (λ x. eqb x 92) refl s (i + 1) (rw d) in
         let v : i + 2 + 0 ≡ i + 2 = omega arith in
         let w : i + 2 + 1 ≡ i + 3 = omega arith in
-        let u : isMark (drop (i + 2) s) ≡ false = rw (getD-drop (i + 2) s 0 0, getD-drop (i + 2) s 1 0, v, w) n in
+        let u : isQuoting (drop (i + 2) s) ≡ false = rw (getD-drop (i + 2) s 0 0, getD-drop (i + 2) s 1 0, v, w) n in
         by-test (Fits false) (eqb e (i + 2)) (λ c. fit (λ z y f. absurd (omega arith)))
         (λ c. fit (λ z y f. pair-formed false (rest false e) e q h (omega (arith, k .past))
         (rw d (slanted (taken-unmarked (e - (i + 2)) (drop (i + 2) s) u) (k .solid) (part-length s (i + 2) e (named-fits (spanEnd true true s (i + 2) .bar) (e - (i + 2)) z)) (spaced-at e (k .stop)) (f .made)))))

@@ -1,9 +1,10 @@
 pub mod Feeding
 pub mod Verdicts
 pub mod Shapes
-pub mod Settling
+pub mod Scanning
 pub mod Forming
-pub mod Settled
+pub mod Storable
 pub mod Rereading
 pub mod NothingMore
 pub mod NothingMoreHeld
+pub mod Shielding

@@ -1,32 +1,26 @@
--- What `badText` calls bad beside 01's words, because no definition can store it, refuses no definition.
+-- What the reader tells of a text beside that it is bad, because no definition can store it, refuses no definition.
 -- Assumes nothing.
 use Prim.Native.Nat.{ℕ, zero, suc, _+_, _<_, _≤_}
-use mathlib.Core.Bool.{Bool, true, false, cond, not, _||_}
-use mathlib.Core.List.{List, [], _∷_}
+use mathlib.Core.Bool.{Bool, true, false, cond, _||_}
+use mathlib.Core.List.{List}
 use mathlib.Core.Path.{_≡_, refl}
 use native.Mathlib.Omega.{arith}
-use lib.Dec.{eqb, leb}
+use lib.Dec.{leb}
 use lib.ListN.{length, drop}
 use borrow.Author.Tests.{leb-true, leb-false}
 use Rattle.lex.specs.Tokens.{inDefinition, inText, between, marksAfter, tokenAt, tokens}
+use Rattle.lex.specs.Faults.{Unbarred}
 use Rattle.lex.specs.declared.Token.{Token}
 use Rattle.lex.proofs.Progress.{token-ends}
 use Rattle.lex.proofs.Listing.{tokens-out}
 use Rattle.storing.specs.Stored.{stored}
 use Rattle.storing.proofs.Reading.{text-next}
-use Rattle.afresh.specs.Judging.{barredGrave, isStray, badIn, badText}
+use Rattle.afresh.specs.Judging.{isBarred, barredGrave, badIn, badText}
+use Rattle.afresh.specs.Unfit.{isStray, unfitIn, unfitText}
 use Rattle.afresh.proofs.Sorts.{or-false}
 use Rattle.judging.proofs.Shapes.{Made}
-use Rattle.judging.proofs.Settled.{Unbarred, stored-made}
+use Rattle.judging.proofs.Storable.{stored-made}
 use Rattle.judging.proofs.Rereading.{Stepped, barred, passed, steps}
-
--- 01's words alone: "directive in the text (the two `__` words are allowed), odd number of quote marks, or a stored text that
--- refusals 2 to 6 would bar when read"; odd: so many quote marks so far
-unfoldable pub plainBadIn : List ℕ → Bool → List Token → Bool
-plainBadIn w odd [] = odd
-plainBadIn w odd (t ∷ ts) =
-    let r = plainBadIn w (marksAfter odd t) ts in
-    cond (not (eqb (t .bar) 0) || barredGrave w t) true r
 
 -- one token is judged alike
 module _ (a c d r s : Bool) where
@@ -38,20 +32,20 @@ module _ (a c d r s : Bool) where
 
 module _ (w : List ℕ) where
   abbrev Judged : Bool → ℕ → Type 0
-  Judged b i = badIn w b (tokens (between inText b) w i) ≡ plainBadIn w b (tokens (between inText b) w i)
+  Judged b i = unfitIn w b (tokens (between inText b) w i) ≡ badIn w b (tokens (between inText b) w i)
 
   judged-next : (b : Bool) (i : ℕ) → i < length w → (t : Token) → t ≡ tokenAt (between inText b) w i → Stepped w b t
       → (Made (marksAfter b t) (drop (t .end) w) → Judged (marksAfter b t) (t .end)) → Judged b i
-  unfolding badIn plainBadIn
+  unfolding unfitIn badIn
   judged-next b i l t q (barred e) f =
       rw (text-next b (between inText b) w i t refl q l)
-      (alike-barred (not (eqb (t .bar) 0)) (isStray w b t) (barredGrave w t) (badIn w (marksAfter b t) (tokens (between inText (marksAfter b t)) w (t .end))) (plainBadIn w (marksAfter b t) (tokens (between inText (marksAfter b t)) w (t .end))) e)
+      (alike-barred (isBarred t) (isStray w b t) (barredGrave w t) (unfitIn w (marksAfter b t) (tokens (between inText (marksAfter b t)) w (t .end))) (badIn w (marksAfter b t) (tokens (between inText (marksAfter b t)) w (t .end))) e)
   judged-next b i l t q (passed e m) f =
       rw (text-next b (between inText b) w i t refl q l)
-      (alike-passed (not (eqb (t .bar) 0)) (isStray w b t) (barredGrave w t) (badIn w (marksAfter b t) (tokens (between inText (marksAfter b t)) w (t .end))) (plainBadIn w (marksAfter b t) (tokens (between inText (marksAfter b t)) w (t .end))) e (f m))
+      (alike-passed (isBarred t) (isStray w b t) (barredGrave w t) (unfitIn w (marksAfter b t) (tokens (between inText (marksAfter b t)) w (t .end))) (badIn w (marksAfter b t) (tokens (between inText (marksAfter b t)) w (t .end))) e (f m))
 
   judged-out : (b : Bool) (i : ℕ) → length w ≤ i → Judged b i
-  unfolding badIn plainBadIn
+  unfolding unfitIn badIn
   judged-out b i l = rw (tokens-out (between inText b) w i l)
 
   judged : (n : ℕ) (b : Bool) (i : ℕ) → length w ≤ n + i → Made b (drop i w) → Judged b i
@@ -66,9 +60,9 @@ module _ (w : List ℕ) where
           let p : i < t .end = token-ends (between inText b) w i l in
           judged-next b i l t refl (steps w b i (drop i w) refl l m) (λ r. f (marksAfter b t) (t .end) (omega arith) r)
 
-  made-judged : Made false w → badText w ≡ plainBadIn w false (tokens inText w 0)
-  unfolding badText
+  made-judged : Made false w → unfitText w ≡ badText w
+  unfolding unfitText badText
   made-judged m = judged (length w) false 0 (omega arith) m
 
-pub nothing-more : (s : List ℕ) (i x : ℕ) → Unbarred (tokens inDefinition s i) → badText (stored s i x) ≡ plainBadIn (stored s i x) false (tokens inText (stored s i x) 0)
+pub nothing-more : (s : List ℕ) (i x : ℕ) → Unbarred (tokens inDefinition s i) → unfitText (stored s i x) ≡ badText (stored s i x)
 nothing-more s i x u = made-judged (stored s i x) (stored-made s i x u)

@@ -17,14 +17,16 @@ use Rattle.lex.specs.Tokens.{inText, between, marksAfter, stringToken, slashTok
 use Rattle.lex.specs.declared.Scan.{Scan}
 use Rattle.lex.specs.declared.Token.{Token}
 use Rattle.lex.proofs.Tests.{by-test, true-false, and-left, and-right, read-within}
-use Rattle.afresh.specs.Judging.{isStray}
+use Rattle.afresh.specs.Judging.{isBarred}
+use Rattle.afresh.specs.Unfit.{isStray}
 use Rattle.afresh.proofs.Sorts.{and-false, apart}
 use Rattle.afresh.proofs.Placing.{byte-at, goes-on, rest-at, part-from}
-use Rattle.judging.proofs.Shapes.{isSharp, Closed, close, pair, byte, Solid, Spaced, isSlashed, isMark, Made, none, some, mild, line, string, quote, joiner, mark, word, slash, solid, slanted, mild-by}
+use Rattle.afresh.proofs.Marking.{isQuoting}
+use Rattle.judging.proofs.Shapes.{isSharp, Closed, close, pair, byte, Solid, Spaced, isSlashed, Made, none, some, mild, line, string, quote, joiner, mark, word, slash, solid, slanted, mild-by}
 
 -- what a token is, and what follows it
 pub data Stepped (w : List ℕ) (b : Bool) (t : Token) : Type 0 where
-  barred : not (eqb (t .bar) 0) ≡ true → Stepped w b t
+  barred : isBarred t ≡ true → Stepped w b t
   passed : isStray w b t ≡ false → Made (marksAfter b t) (drop (t .end) w) → Stepped w b t
 
 or-left : (a b : Bool) → (a || b) ≡ false → a ≡ false
@@ -129,7 +131,7 @@ module _ (w : List ℕ) (from : ℕ) (n p : List ℕ) (d : drop from w ≡ n ++ 
   span-past s = past-of (spanFrom true true true from (drop from w)) (rw d (span-of true from n p s k))
 
 -- an escaped name with a grave accent before it is no escaped quote mark
-unmarked : (n p : List ℕ) → Spaced p → isMark n ≡ false → isMark (n ++ p) ≡ false
+unmarked : (n p : List ℕ) → Spaced p → isQuoting n ≡ false → isQuoting (n ++ p) ≡ false
 unmarked [] p none e = refl
 unmarked [] p (some {x = x} k) e = rw (apart isSpace x 96 k refl)
 unmarked (x ∷ []) p none e = e
@@ -282,7 +284,7 @@ module _ (w : List ℕ) (i : ℕ) where
       (λ e. passed refl (rw (← eqb-true (spanEnd true true w (i + 1) .end) (i + 1) e) (h .made)))
       (λ e. passed (h .fits) (h .made))
 
-  slanted-meets : (n p : List ℕ) → drop i w ≡ 96 ∷ 92 ∷ (n ++ p) → isMark n ≡ false → Solid n → length n ≤ 1024 → Spaced p → Made false p
+  slanted-meets : (n p : List ℕ) → drop i w ≡ 96 ∷ 92 ∷ (n ++ p) → isQuoting n ≡ false → Solid n → length n ≤ 1024 → Spaced p → Made false p
       → Stepped w false (graveToken (between inText false) w i)
   unfolding graveToken escapedGrave
   slanted-meets n p d e s l k m =

@@ -10,6 +10,7 @@ use Rattle.lex.specs.Classes.{isWhite, isSpace, isStart, isSpan}
 use Rattle.lex.proofs.Tests.{by-test}
 use Rattle.storing.specs.Stored.{keep, trimLeft, trimRight}
 use Rattle.afresh.proofs.Sorts.{start-white, apart}
+use Rattle.afresh.proofs.Marking.{isQuoting}
 
 -- a byte that may begin more than a byte or a run, and the newline; b: between quote marks
 abbrev pub isSharp : Bool → ℕ → Bool
@@ -35,10 +36,6 @@ pub data Spaced : List ℕ → Type 0 where
 abbrev pub isSlashed : ℕ → Bool
 isSlashed x = eqb x 47 || eqb x 42
 
--- an escaped name that with the grave accent before it would be an escaped quote mark
-abbrev pub isMark : List ℕ → Bool
-isMark n = eqb (getD n 0 0) 96 && eqb (getD n 1 0) 34
-
 -- some stored text, b: read on between quote marks
 pub data Made : Bool → List ℕ → Type 0 where
   none : {b : Bool} → Made b []
@@ -51,7 +48,7 @@ pub data Made : Bool → List ℕ → Type 0 where
   word : {b : Bool} {x : ℕ} {p : List ℕ} → isStart x ≡ true → Made b p → Made b (96 ∷ x ∷ p)
   slash : {p : List ℕ} → isSlashed (getD p 0 0) ≡ false → Made false p → Made false (47 ∷ p)
   solid : {n p : List ℕ} → Solid n → length n ≤ 1024 → Spaced p → Made false p → Made false (92 ∷ (n ++ p))
-  slanted : {n p : List ℕ} → isMark n ≡ false → Solid n → length n ≤ 1024 → Spaced p → Made false p → Made false (96 ∷ 92 ∷ (n ++ p))
+  slanted : {n p : List ℕ} → isQuoting n ≡ false → Solid n → length n ≤ 1024 → Spaced p → Made false p → Made false (96 ∷ 92 ∷ (n ++ p))
 
 -- a byte that passes a test is mild
 pub mild-by : (p : ℕ → Bool) → p 10 ≡ false → p 34 ≡ false → p 96 ≡ false → p 47 ≡ false → p 92 ≡ false → (b : Bool) (x : ℕ) → p x ≡ true → isSharp b x ≡ false

@@ -10,14 +10,15 @@ use lib.ListN.{length}
 use lib.Seq.{take-all}
 use Rattle.text.specs.Bytes.{part}
 use Rattle.lex.specs.Classes.{isSpace}
-use Rattle.brackets.specs.Stacks.{stackOf, Full}
+use Rattle.brackets.specs.Stacks.{stackOf, Full, Settled, full, over}
 use Rattle.brackets.proofs.Stacking.{full-more}
 use Rattle.storing.specs.Stored.{keep, trimLeft, trimRight}
 use Rattle.afresh.specs.declared.Reading.{Reading}
 use Rattle.afresh.specs.declared.Verdict.{Verdict}
 use Rattle.afresh.specs.declared.Verdict.the-variants.{Short}
 use Rattle.afresh.specs.States.{reading, ended, begun}
-use Rattle.afresh.specs.Feeding.{stateOf, Sound, isBadAs, verdictOf, JudgedBy, full, over}
+use Rattle.afresh.specs.Feeding.{stateOf, Sound, verdictOf}
+use Rattle.afresh.specs.Unfit.{isUnfitAs}
 use Rattle.afresh.proofs.Spaces.{trimmed}
 use Rattle.afresh.proofs.Meaning.{meaning}
 use Rattle.judging.proofs.Feeding.{Feeding, feeding-first}
@@ -58,12 +59,12 @@ trim-twice [] = refl
 trim-twice (x ∷ xs) = keep-trimmed x (trimRight xs) (trim-twice xs)
 
 -- the end of what is read as it stands
-ended-bad : (text : Bool) (w : List ℕ) → ended (reading (begun text) w) ≡ isBadAs text (trimRight (trimLeft w))
+ended-bad : (text : Bool) (w : List ℕ) → ended (reading (begun text) w) ≡ isUnfitAs text (trimRight (trimLeft w))
 ended-bad text w = sym (trimmed text w) ∙ meaning text (trimRight (trimLeft w)) (trim-twice (trimLeft w))
 
 pub judged-end : (text : Bool) (whole name₀ stack₀ : List ℕ) (n : ℕ) (v : Verdict) {q : Reading} {name stack rest : List ℕ}
     → Feeding (starting text) name₀ stack₀ q name stack rest whole → rest ≡ [] → ((w : List ℕ) → v ≡ verdictOf (ended (stateOf q name w)))
-    → JudgedBy (isBadAs text (trimRight (trimLeft whole))) stack₀ n v
+    → Settled stack₀ n Short (verdictOf (isUnfitAs text (trimRight (trimLeft whole)))) v
 unfolding reading
 judged-end text whole name₀ stack₀ n v {q} {name} {stack} a e h =
     let z : reading (stateOf q name stack) [] ≡ reading (begun text) whole =
@@ -72,8 +73,8 @@ judged-end text whole name₀ stack₀ n v {q} {name} {stack} a e h =
     full (h stack ∙ (ap (λ s. verdictOf (ended s)) z ∙ ap verdictOf (ended-bad text whole)))
 
 -- the brackets have no room for the m bytes read
-pub judged-short : {bad : Bool} {stack : List ℕ} {m n : ℕ} {v : Verdict} → m ≤ n → v ≡ Short → Full stack (0 + m) → JudgedBy bad stack n v
-judged-short {bad} {stack} {m} {n} l e f = over e (full-more stack (0 + m) n f (omega arith))
+pub judged-short : {right v : Verdict} {stack : List ℕ} {m n : ℕ} → m ≤ n → v ≡ Short → Full stack (0 + m) → Settled stack n Short right v
+judged-short {stack = stack} {m} {n} l e f = over e (full-more stack (0 + m) n f (omega arith))
 
 -- all of w is one part of it
 pub part-whole : (w : List ℕ) → w ≡ part w 0 (length w) ++ []

@@ -5,9 +5,11 @@ ghost use mathlib.Core.List.{[]};
 ghost use Prim.Native.Nat.{_≤_};
 ghost use lib.ListN.{length};
 ghost use Rattle.text.specs.Bytes.{part};
+ghost use Rattle.brackets.specs.Stacks.{Settled};
 ghost use Rattle.storing.specs.Stored.{joinedFrom, escapeOf, given, piece, stored, trimLeft, trimRight};
 ghost use Rattle.afresh.specs.States.{reading};
-ghost use Rattle.afresh.specs.Feeding.{stateOf, Sound, FedBy, isBadAs, JudgedBy};
+ghost use Rattle.afresh.specs.Feeding.{stateOf, Sound, FedBy, verdictOf};
+ghost use Rattle.afresh.specs.Unfit.{isUnfitAs};
 use afresh::Fed;
 use afresh::Reading;
 use afresh::Verdict;
@@ -156,7 +158,7 @@ pub fn judge_stored(
     stack: &mut [u8],
 ) -> Verdict
     requires { ⌜ 1025 ≤ length (now name) ⌝ }
-    ensures { λ r. ⌜ JudgedBy (isBadAs text (stored (now (s .entry)) at end)) (now (stack .entry)) (length (now (s .entry))) r ⌝ }
+    ensures { λ r. ⌜ Settled (now (stack .entry)) (length (now (s .entry))) Verdict.Short (verdictOf (isUnfitAs text (stored (now (s .entry)) at end))) r ⌝ }
 {
     let mut i = at;
     let mut q = begin(text);
@@ -188,7 +190,7 @@ pub fn judge_stored(
 // Judges the stored text (or default) `w`, white space at both ends left aside.
 pub fn judge_whole(w: &[u8], text: bool, name: &mut [u8], stack: &mut [u8]) -> Verdict
     requires { ⌜ 1025 ≤ length (now name) ⌝ }
-    ensures { λ r. ⌜ JudgedBy (isBadAs text (trimRight (trimLeft (now (w .entry))))) (now (stack .entry)) (length (now (w .entry))) r ⌝ }
+    ensures { λ r. ⌜ Settled (now (stack .entry)) (length (now (w .entry))) Verdict.Short (verdictOf (isUnfitAs text (trimRight (trimLeft (now (w .entry)))))) r ⌝ }
 {
     let f = read_part(w, 0, w.len(), begin(text), name, stack);
     match f {

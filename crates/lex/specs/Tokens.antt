@@ -192,6 +192,10 @@ isByte s b t = is Byte t && eqb (getD s (t .at) 0) b
 abbrev pub isGap : Token → Bool
 isGap t = is White t || (is LineComment t || (is BlockComment t || is Continuation t))
 
+-- a joiner or either quote mark, barred by `markBar`
+abbrev pub isMark : Token → Bool
+isMark t = is Quote t || (is EscapedQuote t || is Joiner t)
+
 -- in macro text: whether what stands past a token is between quote marks
 abbrev pub marksAfter : Bool → Token → Bool
 marksAfter b t = cond (is Quote t) (not b) b

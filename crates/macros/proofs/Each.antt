@@ -1,75 +1,106 @@
--- What holds of each macro, after a definition and after an `undef`; and a store in which it is that each is fit.
+-- What holds of each of a list; of each macro, after a definition, after an `undef` and of the start macros; that each is fit.
 -- Assumes nothing.
 use Prim.Native.Nat.{ℕ, zero, suc, _<_}
 use native.Mathlib.Nat.{not-suc-le-zero, le-of-suc-le-suc}
 use mathlib.Core.Bool.{true}
 use mathlib.Core.List.{List, [], _∷_, _++_}
 use mathlib.Core.Path.{_≡_, refl}
-use lib.ListN.{length, take, drop}
+use lib.ListN.{length, take, drop, getD}
 use Rattle.lex.proofs.Tests.{and-left, and-right}
 use Rattle.definition.specs.Definitions.{Macro}
-use Rattle.store.specs.Stores.{macroName, macroAt, find, defineBy, define, undefineBy, undefine}
+use Rattle.store.specs.Stores.{macroName, find, defineBy, define, undefineBy, undefine}
 use Rattle.store.specs.declared.Found.{Found}
 use Rattle.store.specs.declared.Found.the-variants.{At, Missing}
 use Rattle.genuine.specs.Fitness.{fitMacro, allFit}
+use Rattle.macros.specs.Starting.{emptyMacro, rangeOf, startedFrom}
 
-abbrev pub Each : (Macro → Type 0) → List Macro → Type 0
+unfoldable pub Each : {A : Type 0} → (A → Type 0) → List A → Type 0
 Each P [] = Unit {0}
-Each P (m ∷ ms) = P m × Each P ms
+Each P (a ∷ l) = P a × Each P l
+
+module _ {A : Type 0} (P : A → Type 0) where
+  pub each-none : Each P []
+  unfolding Each
+  each-none = tt
+
+  pub each-with : (a : A) (l : List A) → P a → Each P l → Each P (a ∷ l)
+  unfolding Each
+  each-with a l h g = (h, g)
+
+  pub each-append : (l k : List A) → Each P l → Each P k → Each P (l ++ k)
+  unfolding Each
+  each-append [] k h g = g
+  each-append (a ∷ l) k h g = (h .0, each-append l k (h .1) g)
+
+  each-take : (n : ℕ) (l : List A) → Each P l → Each P (take n l)
+  unfolding Each
+  each-take zero l h = tt
+  each-take (suc n) [] h = tt
+  each-take (suc n) (a ∷ l) h = (h .0, each-take n l (h .1))
+
+  each-drop : (n : ℕ) (l : List A) → Each P l → Each P (drop n l)
+  unfolding Each
+  each-drop zero l h = h
+  each-drop (suc n) [] h = tt
+  each-drop (suc n) (a ∷ l) h = each-drop n l (h .1)
+
+  pub each-get : (l : List A) (n : ℕ) (d : A) → Each P l → P d → P (getD l n d)
+  unfolding Each
+  each-get [] n d h g = g
+  each-get (a ∷ l) zero d h g = h .0
+  each-get (a ∷ l) (suc n) d h g = each-get l n d (h .1) g
+
+  pub each-at : (l : List A) (n : ℕ) (d : A) → n < length l → Each P l → P (getD l n d)
+  unfolding Each
+  each-at [] n d k h = absurd (not-suc-le-zero k)
+  each-at (a ∷ l) zero d k h = h .0
+  each-at (a ∷ l) (suc n) d k h = each-at l n d (le-of-suc-le-suc k) (h .1)
+
+-- what follows for each
+pub each-so : {A : Type 0} (P Q : A → Type 0) → ((a : A) → P a → Q a) → (l : List A) → Each P l → Each Q l
+unfolding Each
+each-so P Q f [] h = tt
+each-so P Q f (a ∷ l) h = (f a (h .0), each-so P Q f l (h .1))
+
+-- ---- macros
 
 module _ (P : Macro → Type 0) where
-  each-take : (i : ℕ) (ms : List Macro) → Each P ms → Each P (take i ms)
-  each-take zero [] h = tt
-  each-take zero (m ∷ ms) h = tt
-  each-take (suc i) [] h = tt
-  each-take (suc i) (m ∷ ms) h = (h .0, each-take i ms (h .1))
-
-  each-drop : (i : ℕ) (ms : List Macro) → Each P ms → Each P (drop i ms)
-  each-drop zero [] h = h
-  each-drop zero (m ∷ ms) h = h
-  each-drop (suc i) [] h = tt
-  each-drop (suc i) (m ∷ ms) h = each-drop i ms (h .1)
-
-  each-join : (a b : List Macro) → Each P a → Each P b → Each P (a ++ b)
-  each-join [] b g h = h
-  each-join (m ∷ a) b g h = (g .0, each-join a b (g .1) h)
-
   define-by : (f : Found) (m : Macro) (ms : List Macro) → P m → Each P ms → Each P (defineBy f m ms)
-  define-by (At i) m ms g h = each-join (take i ms) (m ∷ drop (suc i) ms) (each-take i ms h) (g, each-drop (suc i) ms h)
-  define-by (Missing i) m ms g h = each-join (take i ms) (m ∷ drop i ms) (each-take i ms h) (g, each-drop i ms h)
+  define-by (At i) m ms g h =
+      each-append P (take i ms) (m ∷ drop (suc i) ms) (each-take P i ms h) (each-with P m (drop (suc i) ms) g (each-drop P (suc i) ms h))
+  define-by (Missing i) m ms g h =
+      each-append P (take i ms) (m ∷ drop i ms) (each-take P i ms h) (each-with P m (drop i ms) g (each-drop P i ms h))
 
   pub each-define : (m : Macro) (ms : List Macro) → P m → Each P ms → Each P (define m ms)
   unfolding define
   each-define m ms g h = define-by (find (macroName m) ms) m ms g h
 
   undefine-by : (f : Found) (ms : List Macro) → Each P ms → Each P (undefineBy f ms)
-  undefine-by (At i) ms h = each-join (take i ms) (drop (suc i) ms) (each-take i ms h) (each-drop (suc i) ms h)
+  undefine-by (At i) ms h = each-append P (take i ms) (drop (suc i) ms) (each-take P i ms h) (each-drop P (suc i) ms h)
   undefine-by (Missing i) ms h = h
 
   pub each-undefine : (w : List ℕ) (ms : List Macro) → Each P ms → Each P (undefine w ms)
   unfolding undefine
   each-undefine w ms h = undefine-by (find w ms) ms h
 
-  pub each-at : (ms : List Macro) (i : ℕ) → i < length ms → Each P ms → P (macroAt ms i)
-  each-at [] i l h = absurd (not-suc-le-zero l)
-  each-at (m ∷ ms) zero l h = h .0
-  each-at (m ∷ ms) (suc i) l h = each-at ms i (le-of-suc-le-suc l) (h .1)
+  pub each-started : ((w : List ℕ) → P (emptyMacro w)) → (s : List ℕ) (vs : List (List ℕ)) (ms : List Macro) → Each P ms → Each P (startedFrom s vs ms)
+  unfolding startedFrom
+  each-started e s [] ms h = h
+  each-started e s (v ∷ vs) ms h =
+      let m = emptyMacro (rangeOf s v) in each-started e s vs (define m ms) (each-define m ms (e (rangeOf s v)) h)
 
--- what follows for each
-pub each-so : (P Q : Macro → Type 0) → ((m : Macro) → P m → Q m) → (ms : List Macro) → Each P ms → Each Q ms
-each-so P Q f [] h = tt
-each-so P Q f (m ∷ ms) h = (f m (h .0), each-so P Q f ms (h .1))
+-- ---- fit macros
 
-abbrev Fit : Macro → Type 0
+abbrev pub Fit : Macro → Type 0
 Fit m = fitMacro m ≡ true
 
-fit-each : (ms : List Macro) → allFit ms ≡ true → Each Fit ms
-unfolding allFit
+pub fit-each : (ms : List Macro) → allFit ms ≡ true → Each Fit ms
+unfolding Each allFit
 fit-each [] h = tt
 fit-each (m ∷ ms) h = (and-left (fitMacro m) (allFit ms) h, fit-each ms (and-right (fitMacro m) (allFit ms) h))
 
-each-fit : (ms : List Macro) → Each Fit ms → allFit ms ≡ true
-unfolding allFit
+pub each-fit : (ms : List Macro) → Each Fit ms → allFit ms ≡ true
+unfolding Each allFit
 each-fit [] h = refl
 each-fit (m ∷ ms) h = rw (h .0) (each-fit ms (h .1))
 

@@ -10,4 +10,4 @@ pub mod Reading
 pub mod Ranges
 pub mod Emptying
 pub mod Starting
-pub mod Settled
+pub mod LookedUp

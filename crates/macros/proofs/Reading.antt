@@ -11,8 +11,9 @@ use borrow.Author.Tests.{lt-leb}
 use lib.Dec.{leb}
 use lib.ListN.{length, take, drop}
 use Rattle.text.specs.Bytes.{part}
+use Rattle.brackets.specs.Stacks.{Settled, full, over}
 use Rattle.definition.specs.Definitions.{Macro, Definition, barred, bad, good, definitionAt}
-use Rattle.definition.specs.Answers.{Settled, full, over, judgedOf}
+use Rattle.definition.specs.Answers.{judgedOf}
 use Rattle.definition.specs.declared.Head.{Head}
 use Rattle.definition.specs.declared.Judged.{Judged}
 use Rattle.definition.specs.declared.Judged.the-variants as judged
@@ -118,12 +119,12 @@ not-short (barred k q) e = let z : _≡_ {A = ℕ} 0 1 = cc in omega arith
 not-short (bad y) e = let z : _≡_ {A = ℕ} 0 1 = cc in omega arith
 not-short (good m y) e = let z : _≡_ {A = ℕ} 0 1 = cc in omega arith
 
-module _ (s : List ℕ) (i : ℕ) {work : List ℕ} {j : Judged} (t : Settled s work judged.Short (judgedOf (definitionAt s i)) j) (l : length s < length work)
+module _ (s : List ℕ) (i : ℕ) {work : List ℕ} {j : Judged} (t : Settled work (length s) judged.Short (judgedOf (definitionAt s i)) j) (l : length s < length work)
     (k : length work < 18446744073709551616) where
   right : j ≡ judgedOf (definitionAt s i)
   right = go t
     where
-      go : Settled s work judged.Short (judgedOf (definitionAt s i)) j → j ≡ judgedOf (definitionAt s i)
+      go : Settled work (length s) judged.Short (judgedOf (definitionAt s i)) j → j ≡ judgedOf (definitionAt s i)
       go (full e) = e
       go (over e f) = absurd (⊎-elim (λ h. omega arith) (λ h. omega arith) f)
 

@@ -19,7 +19,7 @@ use Rattle.lex.proofs.Tests.{by-test, and-left, and-right, true-false}
 use Rattle.names.specs.Names.{isDirective}
 use Rattle.definition.proofs.Formals.{kind-inside}
 use Rattle.genuine.specs.Fitness.{isShort, allSolid, fitName}
-use Rattle.genuine.proofs.Seeing.{Seen, one, word, slanted, other, token-seen}
+use Rattle.definition.proofs.Seeing.{Seen, one, word, slanted, other, token-seen}
 use Rattle.genuine.proofs.Naming.{Solid, formal-solid, word-fit, slanted-fit}
 use Rattle.macros.specs.Looking.{plainly}
 use Rattle.macros.specs.Starting.{isStartName}

@@ -16,7 +16,7 @@ use Rattle.text.proofs.Matching.{same-self}
 use Rattle.lex.proofs.Tests.{and-left, and-right, true-false}
 use Rattle.definition.specs.Definitions.{Macro, macro}
 use Rattle.form.specs.Forms.{parameterForms, headForm, formOf}
-use Rattle.store.specs.Stores.{macroName, macroAt, Ascending, find, define, encode, fits}
+use Rattle.store.specs.Stores.{macroName, macroAt, Ascending, find, define, encode, fits, noMacro}
 use Rattle.store.specs.declared.Found.{Found}
 use Rattle.store.specs.declared.Found.the-variants.{At, Missing}
 use Rattle.store.proofs.Ordering.{find-at-name, find-at-lt, define-at, define-ascends, define-new-length}
@@ -26,7 +26,7 @@ use Rattle.genuine.proofs.Tests.{passed}
 use Rattle.genuine.proofs.Empties.{empty-fit}
 use Rattle.macros.specs.Looking.{plainly}
 use Rattle.macros.specs.Starting.{isStartName, rangeEnd, rangeOf, namedAmong, isStart, allStarts, emptyMacro, startedFrom, started, startsSize, startsFit}
-use Rattle.macros.proofs.Each.{Each, each-at, each-so, each-define, define-fit}
+use Rattle.macros.proofs.Each.{Each, each-none, each-at, each-so, each-define, define-fit}
 use Rattle.macros.proofs.StartNames.{start-name-fit, fit-short}
 
 -- a macro defined empty is its name and a byte 0
@@ -82,7 +82,7 @@ module _ (s : List ℕ) where
       go : (f : Found) → find (plainly (rangeOf s v)) ms ≡ f → Grown (emptyMacro (rangeOf s v)) ms
       go (At i) e =
           let w = plainly (rangeOf s v) in
-          absurd (unlike-first v vs (macroAt ms i) (each-at (Unlike (v ∷ vs)) ms i (find-at-lt w ms e) h) (find-at-name w ms e))
+          absurd (unlike-first v vs (macroAt ms i) (each-at (Unlike (v ∷ vs)) ms i noMacro (find-at-lt w ms e) h) (find-at-name w ms e))
       go (Missing i) e =
           let m = emptyMacro (rangeOf s v) in
           record {
@@ -113,11 +113,11 @@ module _ (s : List ℕ) where
       record { count = omega arith; size = omega arith }
 
   pub started-length : (vs : List (List ℕ)) → allStarts s vs ≡ true → length (started s vs) ≡ length vs
-  started-length vs a = added vs [] a tt .count ∙ omega arith
+  started-length vs a = added vs [] a (each-none (Unlike vs)) .count ∙ omega arith
 
   pub started-size : (vs : List (List ℕ)) → allStarts s vs ≡ true → length (encode (started s vs)) ≡ startsSize s vs
   unfolding encode
-  started-size vs a = added vs [] a tt .size ∙ omega arith
+  started-size vs a = added vs [] a (each-none (Unlike vs)) .size ∙ omega arith
 
   -- whether they fit, told by the ranges
   pub starts-fit-is : (records bytes : ℕ) (vs : List (List ℕ))

@@ -1,23 +1,33 @@
 // Flattens and classifies inputs of the printing program's form (document 01) and prints what comes of them: as that
 // program does, or the whole outcome.
+ghost use Prim.Native.Nat.{_≤_};
 use flatten::Flattened;
+use formats::least;
+use formats::say;
+use formats::say_classified;
+use formats::say_count;
+use formats::say_hex;
+use formats::say_number;
+use formats::say_records;
+use formats::say_refusal;
+use formats::say_words;
 use input::Parsed;
 use libc::STDOUT_FILENO;
 use pass::Answer;
-use report::print_number;
 use settings::Settings;
 use text::part_of;
 
 // What flatten answered; or the input is not of the form.
-pub enum Handled {
+enum Handled {
     Flat(Flattened),
     Unformed,
 }
 
-// Flattens an input, one of over 1,000,000 bytes not. The table has room for one file more than are taken, and the start
-// macros for one more.
-pub fn flatten_input(
+// Flattens an input of at most `most` bytes. The table has room for one file more than are taken, and the start macros for
+// one more.
+fn flatten_input(
     s: &[u8],
+    most: usize,
     root: usize,
     set: usize,
     limit: usize,
@@ -25,8 +35,10 @@ pub fn flatten_input(
     map: &mut [u32],
     records: &mut [[u32; 4]],
     bytes: &mut [u8],
-) -> Handled {
-    if 1000000 < s.len() {
+) -> Handled
+    requires { ⌜ most ≤ 1000000 ⌝ }
+{
+    if most < s.len() {
         return Handled::Unformed;
     }
     let mut table = [[0u32; 5]; 65];
@@ -43,50 +55,11 @@ pub fn flatten_input(
     }
 }
 
-// The same for the printing program: at most 60,000 bytes, root 0, set 1800-2005, 100,000 replacements, records of its own.
-fn flatten_own(s: &[u8], text: &mut [u8], map: &mut [u32], bytes: &mut [u8]) -> Handled {
-    if 60000 < s.len() {
-        return Handled::Unformed;
-    }
-    let mut table = [[0u32; 5]; 65];
-    let mut starts = [[0u32; 2]; 257];
-    let p = input::parse(s, &mut table, &mut starts);
-    match p {
-        Parsed::Broken => Handled::Unformed,
-        Parsed::Whole(n, m) => {
-            let files = &table[0..n];
-            let names = &starts[0..m];
-            let o = own::flatten(s, files, 0, names, 3, 100000, text, map, bytes);
-            let r = o.answer;
-            Handled::Flat(r)
-        }
-    }
-}
-
-fn say(w: &[u8]) {
-    io::write_all(STDOUT_FILENO, w);
-}
-
-fn print_place(number: usize, file: usize, line: usize, byte: usize) {
-    print_number(number as u64);
-    print_number(file as u64);
-    print_number(line as u64);
-    print_number(byte as u64);
-    say(b"\n");
-}
-
-fn print_refusal(number: usize, file: usize, line: usize, byte: usize) {
-    say(b"refused");
-    print_place(number, file, line, byte);
-}
-
 // The length of the text and the text, with a newline behind it where its last is missing.
 fn print_text(text: &[u8]) {
-    say(b"text");
-    print_number(text.len() as u64);
-    say(b"\n");
-    say(text);
     let n = text.len();
+    say_count(b"text", n);
+    say(text);
     if n == 0 {
         return;
     }
@@ -95,45 +68,22 @@ fn print_text(text: &[u8]) {
     }
 }
 
-fn print_file_line(v: u32) {
-    io::print_decimal(STDOUT_FILENO, (v / 131072) as u64);
-    print_number((v % 131072) as u64);
-    say(b"\n");
-}
-
-// The first `n` map entries, file and line.
-fn print_places(map: &[u32], n: usize) {
-    say(b"map");
-    print_number(n as u64);
-    say(b"\n");
-    let mut i = 0;
-    while i < n {
-        if map.len() <= i {
-            return;
-        }
-        print_file_line(map[i]);
-        i += 1;
+// A map entry: a line of its file and line, or behind a space as it is.
+fn print_entry(v: u32, placed: bool) {
+    if placed {
+        io::print_decimal(STDOUT_FILENO, (v / 131072) as u64);
+        say_number((v % 131072) as usize);
+        say(b"\n");
+        return;
     }
+    say_number(v as usize);
 }
 
-fn print_word(w: [u32; 3]) {
-    io::print_decimal(STDOUT_FILENO, w[0] as u64);
-    print_number(w[1] as u64);
-    print_number(w[2] as u64);
-    say(b"\n");
-}
-
-// The first `n` words: offset, length, 1 if reserved.
-fn print_words(words: &[[u32; 3]], n: usize) {
-    say(b"words");
-    print_number(n as u64);
-    say(b"\n");
+fn print_entries(map: &[u32], n: usize, placed: bool) {
+    let end = least(n, map.len());
     let mut i = 0;
-    while i < n {
-        if words.len() <= i {
-            return;
-        }
-        print_word(words[i]);
+    while i < end {
+        print_entry(map[i], placed);
         i += 1;
     }
 }
@@ -143,12 +93,13 @@ fn print_sections(r: Flattened, text: &[u8], map: &[u32], words: &mut [[u32; 3]]
     let flat = part_of(text, 0, r.written);
     let c = classify::classify(flat, 3, words);
     if c.number != 0 {
-        print_refusal(c.number, 0, c.line, c.byte);
+        say_refusal(b"refused", c.number, 0, c.line, c.byte);
         return;
     }
     print_text(flat);
-    print_places(map, r.lines);
-    print_words(words, c.words);
+    say_count(b"map", r.lines);
+    print_entries(map, r.lines, true);
+    say_words(b"", words, c.words);
 }
 
 // What the printing program writes of an input, with these buffers lent.
@@ -156,15 +107,16 @@ pub fn print_input(
     s: &[u8],
     text: &mut [u8],
     map: &mut [u32],
+    records: &mut [[u32; 4]],
     bytes: &mut [u8],
     words: &mut [[u32; 3]],
 ) {
-    let a = flatten_own(s, text, map, bytes);
+    let a = flatten_input(s, 60000, 0, 3, 100000, text, map, records, bytes);
     match a {
-        Handled::Unformed => print_refusal(1, 0, 0, 0),
+        Handled::Unformed => say_refusal(b"refused", 1, 0, 0, 0),
         Handled::Flat(r) => {
             if r.number != 0 {
-                print_refusal(r.number, r.file, r.line, r.byte);
+                say_refusal(b"refused", r.number, r.file, r.line, r.byte);
                 return;
             }
             print_sections(r, text, map, words);
@@ -172,37 +124,15 @@ pub fn print_input(
     }
 }
 
-fn hex_digit(n: u8) -> u8 {
-    if n < 10 { 48 + n } else { 87 + n % 16 }
-}
-
-// At most 256 bytes in hexadecimal.
-fn print_digits(w: &[u8]) {
-    let mut digits = [0u8; 512];
-    let mut i = 0;
-    while i < w.len() {
-        if 256 <= i {
-            return;
-        }
-        digits[2 * i] = hex_digit(w[i] / 16);
-        digits[2 * i + 1] = hex_digit(w[i] % 16);
-        i += 1;
-    }
-    say(&digits[0..2 * i]);
-}
-
-// All of some bytes in hexadecimal, a hyphen for none.
-fn print_bytes(w: &[u8]) {
+// Bytes in hexadecimal behind a word, a hyphen for none.
+fn print_bytes(word: &[u8], w: &[u8]) {
+    say(word);
     if w.len() == 0 {
         say(b" -\n");
         return;
     }
     say(b" ");
-    let mut i = 0;
-    while i < w.len() {
-        print_digits(part_of(w, i, i + 256));
-        i += 256;
-    }
+    say_hex(w);
     say(b"\n");
 }
 
@@ -211,17 +141,12 @@ fn print_answer(r: Flattened) {
     if r.number == 0 {
         say(b"flatten ok\n");
     } else {
-        say(b"flatten refused");
-        print_place(r.number, r.file, r.line, r.byte);
+        say_refusal(b"flatten refused", r.number, r.file, r.line, r.byte);
     }
     say(b"counts");
-    print_number(r.count as u64);
-    print_number(r.deepest as u64);
+    say_number(r.count);
+    say_number(r.deepest);
     say(b"\n");
-}
-
-fn print_entry(v: u32) {
-    print_number(v as u64);
 }
 
 // The first `n` map entries as they are, a hyphen for none.
@@ -230,39 +155,8 @@ fn print_map(map: &[u32], n: usize) {
     if n == 0 {
         say(b" -");
     }
-    let mut i = 0;
-    while i < n {
-        if map.len() <= i {
-            return;
-        }
-        print_entry(map[i]);
-        i += 1;
-    }
+    print_entries(map, n, false);
     say(b"\n");
-}
-
-fn print_record(v: [u32; 4]) {
-    say(b"rec");
-    print_number(v[0] as u64);
-    print_number(v[1] as u64);
-    print_number(v[2] as u64);
-    print_number(v[3] as u64);
-    say(b"\n");
-}
-
-// The first `n` records.
-fn print_records(records: &[[u32; 4]], n: usize) {
-    say(b"macros");
-    print_number(n as u64);
-    say(b"\n");
-    let mut i = 0;
-    while i < n {
-        if records.len() <= i {
-            return;
-        }
-        print_record(records[i]);
-        i += 1;
-    }
 }
 
 fn print_net(n: usize) {
@@ -303,7 +197,7 @@ fn print_scale(c: Settings) {
         say(b" unset");
         return;
     }
-    print_number(c.unit as u64);
+    say_number(c.unit);
     say(b"/");
     io::print_decimal(STDOUT_FILENO, c.precision as u64);
 }
@@ -317,7 +211,7 @@ fn print_state(number: usize, c: Settings) {
     }
     print_scale(c);
     print_net(c.net);
-    print_number(c.cell as u64);
+    say_number(c.cell as usize);
     print_drive(c.drive);
     print_set(c.keywords);
     say(b"\n");
@@ -325,35 +219,31 @@ fn print_state(number: usize, c: Settings) {
 
 fn print_flattened(r: Flattened, text: &[u8], map: &[u32], records: &[[u32; 4]], bytes: &[u8]) {
     print_answer(r);
-    say(b"text");
-    print_bytes(part_of(text, 0, r.written));
+    print_bytes(b"text", part_of(text, 0, r.written));
     print_map(map, r.lines);
-    print_records(records, r.macros);
-    say(b"bytes");
-    print_bytes(part_of(bytes, 0, r.stored));
+    say_count(b"macros", r.macros);
+    say_records(records, r.macros);
+    print_bytes(b"bytes", part_of(bytes, 0, r.stored));
     print_state(r.number, r.settings);
 }
 
-// What pass answers on the macros that flatten left: yes, or a refusal and the macro's name; 1 after refusal 1.
-fn print_pass(number: usize, records: &[[u32; 4]], bytes: &[u8]) {
-    if number == 1 {
-        say(b"pass 1\n");
-        return;
-    }
+// What pass answers on these records and bytes: yes, or a refusal and the macro's name.
+pub fn print_pass(records: &[[u32; 4]], bytes: &[u8]) {
     let a = pass::pass(bytes, records);
     match a {
         Answer::Yes => say(b"pass yes\n"),
         Answer::Fault(i, n) => {
             say(b"pass");
-            print_number(n as u64);
+            say_number(n);
             let q = packed::read(records, i);
-            print_bytes(part_of(bytes, q.start, q.start + q.name));
+            print_bytes(b"", part_of(bytes, q.start, q.start + q.name));
         }
         Answer::Foreign => say(b"pass 1\n"),
     }
 }
 
-// The whole outcome: of flatten, of classify, which reads the text that stands, refused or not, and of pass.
+// The whole outcome: of flatten, of classify, which reads the text that stands, refused or not, and of pass on the macros
+// left; 1 for pass behind refusal 1.
 fn print_outcome(
     r: Flattened,
     set: u32,
@@ -365,11 +255,15 @@ fn print_outcome(
 ) {
     print_flattened(r, text, map, records, bytes);
     let c = classify::classify(part_of(text, 0, r.written), set, words);
-    report::print_words(c, words);
-    print_pass(r.number, records, bytes);
+    say_classified(c, words);
+    if r.number == 1 {
+        say(b"pass 1\n");
+        return;
+    }
+    print_pass(records, bytes);
 }
 
-// Flattens an input and prints the whole outcome.
+// Flattens an input of up to 1,000,000 bytes and prints the whole outcome.
 pub fn dump_input(
     s: &[u8],
     root: usize,
@@ -381,7 +275,17 @@ pub fn dump_input(
     bytes: &mut [u8],
     words: &mut [[u32; 3]],
 ) {
-    let a = flatten_input(s, root, set as usize, limit, text, map, records, bytes);
+    let a = flatten_input(
+        s,
+        1000000,
+        root,
+        set as usize,
+        limit,
+        text,
+        map,
+        records,
+        bytes,
+    );
     match a {
         Handled::Unformed => say(b"format\n"),
         Handled::Flat(r) => print_outcome(r, set, text, map, records, bytes, words),

@@ -5,13 +5,13 @@ use crate::gathering::pour;
 use genuine::formal_end;
 use genuine::formal_name;
 use genuine::mark_at;
-use genuine::two_at;
 use macros::is_start_name;
 use plan::wide;
 use records::Record;
 use text::holds_in;
 use text::part_of;
 use text::peek;
+use text::two_at;
 
 // A text with `\` before each newline, as a definition has it.
 fn pour_continued(fd: i32, out: &mut [u8], n: usize, w: &[u8]) -> usize {

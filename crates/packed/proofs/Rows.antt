@@ -23,30 +23,21 @@ pub record-by : (v : List ℕ) (a b c d : ℕ) → length v ≡ 4 → (a ≡ get
 record-by v a b c d l p q r s = record {
   four = l;
   value = cc (p .0, q .0, r .0, s .0);
-  start-small = p .1;
-  name-small = q .1;
-  text-small = r .1;
-  size-small = s .1;
+  small = record { start-small = p .1; name-small = q .1; text-small = r .1; size-small = s .1 };
 }
 
 pub record-as : {v w : List ℕ} {r : Record} → v ≡ w → RecordIs v r → RecordIs w r
 record-as e h = record {
   four = rw (← e) (h .four);
   value = h .value ∙ ap recordOf e;
-  start-small = h .start-small;
-  name-small = h .name-small;
-  text-small = h .text-small;
-  size-small = h .size-small;
+  small = h .small;
 }
 
 pub record-blank : {v : List ℕ} → blankRecord ≡ v → RecordIs v (record { start = 0; name = 0; text = 0; size = 0 })
 record-blank e = record {
   four = rw (← e);
   value = ap recordOf e;
-  start-small = omega arith;
-  name-small = omega arith;
-  text-small = omega arith;
-  size-small = omega arith;
+  small = record { start-small = omega arith; name-small = omega arith; text-small = omega arith; size-small = omega arith };
 }
 
 module _ (more less : ℕ) where

@@ -20,14 +20,18 @@ blankRecord = 0 ∷ 0 ∷ 0 ∷ 0 ∷ []
 abbrev pub recordOf : List ℕ → Record
 recordOf v = record { start = getD v 0 0; name = getD v 1 0; text = getD v 2 0; size = getD v 3 0 }
 
--- r is the record of four numbers v, each of 32 bits
-pub record RecordIs (v : List ℕ) (r : Record) : Type 0 where
-  pub four : length v ≡ 4
-  pub value : r ≡ recordOf v
+-- each number of a record has 32 bits
+pub record Small (r : Record) : Type 0 where
   pub start-small : r .start < 4294967296
   pub name-small : r .name < 4294967296
   pub text-small : r .text < 4294967296
   pub size-small : r .size < 4294967296
+
+-- r is the record of four numbers v, each of 32 bits
+pub record RecordIs (v : List ℕ) (r : Record) : Type 0 where
+  pub four : length v ≡ 4
+  pub value : r ≡ recordOf v
+  pub small : Small r
 
 -- the form of a record moved on by `more` and back by `less` bytes
 abbrev pub movedBy : ℕ → ℕ → List ℕ → List ℕ

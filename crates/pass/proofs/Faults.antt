@@ -17,14 +17,14 @@ use Rattle.store.specs.declared.Found.the-variants.{At, Missing}
 use Rattle.store.proofs.Places.{found-below}
 use Rattle.packed.proofs.Rows.{any-default}
 use Rattle.pending.specs.declared.Pend.{Pend}
-use Rattle.pending.specs.Pending.{Pending, View, view}
+use Rattle.pending.specs.Pending.{Pending, View, isCall, view}
 use Rattle.pending.specs.References.{pendOf, pendingBy, blank, stacked}
 use Rattle.pending.specs.Sources.{itemsFrom}
+use Rattle.pending.proofs.Viewing.{not-usage}
 use Rattle.arguments.specs.declared.Sought.{Sought}
 use Rattle.arguments.specs.declared.Sought.the-variants as sought
 use Rattle.replace.specs.Placing.{MacroIn}
 use Rattle.replace.specs.Replacing.{listFor}
-use Rattle.expand.specs.Expanding.{isCall}
 use Rattle.expand.specs.Standing.{Accepts, AcceptedBy}
 use Rattle.expand.proofs.Calling.{formalsOf, macro-in}
 use Rattle.expand.proofs.Replacing.{stacked-drop, items-list}
@@ -33,7 +33,6 @@ use Rattle.passing.specs.Passing.{orNext, formalsOf as formals, barOf, foundFau
 use Rattle.pass.specs.declared.Verdict.{Verdict}
 use Rattle.pass.specs.declared.Verdict.the-variants as verdict
 use Rattle.pass.specs.Judging.{verdictOf}
-use Rattle.pass.proofs.Others.{other-fault}
 
 pub verdict-good : (f : Option ℕ) → verdict.Good ≡ verdictOf f → f ≡ none
 verdict-good none e = refl
@@ -113,7 +112,7 @@ module _ (b : List ℕ) (l : List (List ℕ)) (n k : ℕ) (h : k < n) (g : n ≤
 
     pub token-other : t ≡ false → verdict.Good ≡ verdictOf (faultOf (view p) ms ps)
     token-other a =
-        sym (ap verdictOf (ap (λ (y : Pending). faultOf (view y) ms ps) (sym token-is) ∙ other-fault ms (view (pendingBy b b x)) ps (sym c ∙ a)))
+        sym (ap verdictOf (ap (λ (y : Pending). faultOf (view y) ms ps) (sym token-is) ∙ not-usage (view (pendingBy b b x)) none _ (sym c ∙ a)))
 
 -- ---- a text
 

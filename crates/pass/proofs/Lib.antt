@@ -1,5 +1,4 @@
 pub mod Unfolding
-pub mod Others
 pub mod Faults
 pub mod Using
 pub mod Macros

@@ -2,7 +2,7 @@
 -- Assumes nothing.
 use Prim.Native.Nat.{ℕ, _+_, _<_, _≤_}
 use mathlib.Core.Bool.{Bool, true, false, cond}
-use mathlib.Core.List.{List, [], _∷_}
+use mathlib.Core.List.{List, [], _∷_, List·Memᴰ as In, List·Memᴰ·head as first, List·Memᴰ·tail as later, List·Memᴰ·not-nil as none-in}
 use mathlib.Core.Path.{_≡_, refl, sym, ap, subst, _∙_}
 use native.Mathlib.Omega.{arith}
 use lib.Dec.{eqb}
@@ -15,8 +15,7 @@ use Rattle.sets.specs.Sets.{elem, members}
 use Rattle.sets.specs.declared.MacroSet.{MacroSet}
 use Rattle.reach.specs.Reaching.{setOf, rowOf, hasBit, Fits, Closed, Way as Along, step as along, then as along-then}
 use Rattle.passing.specs.Passing.{textAt, uses, reaches}
-use Rattle.passing.specs.Meaning.{In, Walk, first, later, stay, step}
-use Rattle.passing.proofs.Pigeon.{none-in}
+use Rattle.passing.specs.Meaning.{Walk, stay, step}
 use Rattle.passing.proofs.Chains.{uses-below}
 use Rattle.passing.proofs.Reaching.{Way, reach-exact}
 
@@ -80,7 +79,7 @@ module _ (ms : List Macro) (n : ℕ) (c : n ≡ length ms) (r : List (List ℕ))
       record { nodes = k ∷ y .nodes; walk = step (row-in i k l e) (y .walk); ends = later (y .ends) }
 
   walk-along : {i j : ℕ} {ks : List ℕ} → i < n → Walk ms i ks → In j ks → Along r i j
-  walk-along l stay m = none-in m
+  walk-along l stay m = absurd (none-in m)
   walk-along {i} {j} l (step {j = k} m w) (first e) = along (u i j l ∙ in-elem j (uses ms i) (subst (λ (x : ℕ). In x (uses ms i)) (sym e) m))
   walk-along {i} {j} l (step {j = k} m w) (later o) =
       let e : hasBit r i k ≡ true = u i k l ∙ in-elem k (uses ms i) m in

@@ -17,10 +17,11 @@ use Rattle.storing.proofs.Reading.{token-past, text-next as tokens-text}
 use Rattle.sets.specs.Sets.{members}
 use Rattle.sets.specs.declared.MacroSet.{MacroSet}
 use Rattle.packed.specs.declared.Record.{Record}
+use Rattle.packed.specs.Records.{Small}
 use Rattle.pending.specs.declared.Pend.{Pend}
 use Rattle.pending.specs.Pending.{Pending, textToken, textTokens}
 use Rattle.pending.specs.References.{numbersOf, pendOf, pendingBy, blank, stacked}
-use Rattle.replace.specs.Placing.{Small, storedRef}
+use Rattle.replace.specs.Placing.{storedRef}
 use Rattle.replace.proofs.Texts.{token-inside}
 use Rattle.replace.proofs.Values.{part-own, stored-token}
 use Rattle.passing.specs.Passing.{tokensOf}

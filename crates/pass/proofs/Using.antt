@@ -15,12 +15,11 @@ use Rattle.store.specs.declared.Found.the-variants.{At, Missing}
 use Rattle.sets.specs.Sets.{elem, insertAsc}
 use Rattle.packed.proofs.Rows.{any-default}
 use Rattle.pending.specs.declared.Pend.{Pend}
-use Rattle.pending.specs.Pending.{View, blanks, calls, names, opens, closes, commas, bars, plain, view}
+use Rattle.pending.specs.Pending.{View, isCall, view}
 use Rattle.pending.specs.References.{pendOf, pendingBy, blank, stacked}
-use Rattle.expand.specs.Expanding.{isCall}
+use Rattle.pending.proofs.Viewing.{by-usages, not-usage}
 use Rattle.expand.proofs.Naming.{usage-view}
 use Rattle.passing.specs.Passing.{usedBy, usesOf, usesIn}
-use Rattle.pass.proofs.Others.{other-uses}
 
 -- ---- one more in a set
 
@@ -53,14 +52,8 @@ used-same (Missing i) j r r′ e = e
 
 module _ (ms : List Macro) where
   uses-same : (v : View) (j : ℕ) (r r′ : List ℕ) → elem j r ≡ elem j r′ → elem j (usesOf v ms r) ≡ elem j (usesOf v ms r′)
-  uses-same blanks j r r′ e = e
-  uses-same (calls w) j r r′ e = used-same (find w ms) j r r′ e
-  uses-same (names w) j r r′ e = e
-  uses-same (opens c) j r r′ e = e
-  uses-same (closes b) j r r′ e = e
-  uses-same commas j r r′ e = e
-  uses-same (bars n i) j r r′ e = e
-  uses-same plain j r r′ e = e
+  uses-same v j r r′ e =
+      by-usages (λ (l l′ : List ℕ). elem j l ≡ elem j l′) v (λ c. e) (λ w c. used-same (find w ms) j r r′ e)
 
   -- the token of x, with those of r used already
   module _ (b : List ℕ) (v : List ℕ) {x : Pend} (z : x ≡ pendOf v) {t : Bool} (c : t ≡ isCall (view (pendingBy b b x))) (r : List ℕ) (j : ℕ) where
@@ -68,7 +61,7 @@ module _ (ms : List Macro) where
     as-read = ap (λ (y : Pend). usesOf (view (pendingBy b b y)) ms r) z
 
     pub use-other : t ≡ false → elem j r ≡ elem j (usesOf (view (pendingBy b b (pendOf v))) ms r)
-    use-other a = ap (elem j) (sym (other-uses ms (view (pendingBy b b x)) r (sym c ∙ a)) ∙ as-read)
+    use-other a = ap (elem j) (sym (not-usage (view (pendingBy b b x)) r _ (sym c ∙ a)) ∙ as-read)
 
     module _ (a : t ≡ true) {w : List ℕ} (d : w ≡ pendingBy b b x .name) {f : Found} (e : f ≡ find w ms) where
       use-by : (g : Found) → f ≡ g → usedBy g r ≡ usesOf (view (pendingBy b b (pendOf v))) ms r

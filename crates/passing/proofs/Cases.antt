@@ -6,6 +6,7 @@ use mathlib.Core.List.{List, [], _∷_}
 use mathlib.Core.Path.{_≡_}
 use lib.Dec.{eqb}
 use borrow.Author.Tests.{eq-eqb}
+use Rattle.text.specs.Bytes.{part}
 use Rattle.lex.specs.Tokens.{Grave, is, nameOf}
 use Rattle.lex.proofs.Tests.{by-test}
 use Rattle.names.specs.Names.{directiveOf}
@@ -15,7 +16,7 @@ use Rattle.settings.specs.declared.Settings.{Settings}
 use Rattle.writing.specs.Written.{Written, Room, fitted}
 use Rattle.blocks.specs.Blocks.{Conditional, takenBy}
 use Rattle.turns.specs.States.{Context, Frame, State, nothing, Turn, stop, finished, Here, onPut, write, goTo, refuseAt}
-use Rattle.turns.specs.Acts.{Act, nameIn}
+use Rattle.turns.specs.Acts.{Act}
 use Rattle.turns.specs.Usages.{usageTurn}
 use Rattle.turns.specs.Performing.{perform}
 use Rattle.turns.specs.Turns.{hereAt, turnAt}
@@ -25,16 +26,16 @@ use Rattle.turns.proofs.Asking.{act-asks}
 use Rattle.passing.specs.Meeting.{isMet}
 
 -- the macros behind a token that is no usage
-pub data Leaves (h : Here) : List Macro → Type 0 where
-  same : Leaves h (h .state .macros)
-  defined : {m : Macro} {e : ℕ} → definitionAt (h .body) (h .token .end) ≡ good m e → Leaves h (define m (h .state .macros))
-  undefined : (w : List ℕ) → Leaves h (undefine w (h .state .macros))
-  forgotten : Leaves h []
+pub data Behind (h : Here) : List Macro → Type 0 where
+  same : Behind h (h .state .macros)
+  defined : {m : Macro} {e : ℕ} → definitionAt (h .body) (h .token .end) ≡ good m e → Behind h (define m (h .state .macros))
+  undefined : (w : List ℕ) → Behind h (undefine w (h .state .macros))
+  forgotten : Behind h []
 
 -- a refusal, a turn that writes nothing, one that writes, a usage that is met
 pub record Kinds (h : Here) (P : Turn → Type 0) : Type 0 where
   pub refused : (n p : ℕ) → P (refuseAt h n p)
-  pub goes : (fs : List Frame) (cs : List Conditional) (ms : List Macro) → Leaves h ms → P (goTo h fs cs ms)
+  pub goes : (fs : List Frame) (cs : List Conditional) (ms : List Macro) → Behind h ms → P (goTo h fs cs ms)
   pub wrote : (ws : List Written) (fs : List Frame) (c : Settings) (r : Room) → P (onPut h ws fs c (fitted r))
   pub used : isMet h ≡ true → P (usageTurn h)
 
@@ -49,9 +50,9 @@ module _ (h : Here) (P : Turn → Type 0) (k : Kinds h P) where
   write-is : (ws : List Written) (fs : List Frame) (c : Settings) → P (write h ws fs c)
   write-is ws fs c = by-write h P ws fs c (λ n e. k .refused n (h .token .at)) (λ r e. k .wrote ws fs c r)
 
-  remain-leave : (e : ℕ) (ms : List Macro) → Remain h e ms → Leaves h ms
-  remain-leave e ms (all-but v a q) = undefined (nameIn v (h .body))
-  remain-leave e ms (no-more a) = forgotten
+  remain-behind : (e : ℕ) (ms : List Macro) → Remain h e ms → Behind h ms
+  remain-behind e ms (all-but p a q) = undefined (part (h .body) p e)
+  remain-behind e ms (no-more a) = forgotten
 
   met : Named h 0 → takenBy (h .state .conds) ≡ true → isMet h ≡ true
   met a t =
@@ -68,7 +69,7 @@ module _ (h : Here) (P : Turn → Type 0) (k : Kinds h P) where
   act-is (to-define {m} {e} a t q i) =
       by-test P (fits (h .context .records) (h .context .bytes) (define m (h .state .macros)))
       (λ z. k .goes _ _ (define m (h .state .macros)) (defined q)) (λ z. k .refused _ _)
-  act-is (to-undefine {ms} {e} r t l i) = k .goes _ _ ms (remain-leave e ms l)
+  act-is (to-undefine {ms} {e} r t l i) = k .goes _ _ ms (remain-behind e ms l)
   act-is (to-include a t n i) = go-is _ _
   act-is (to-keep d a t v q i) = write-is _ _ _
   act-is (to-spell r t w) = write-is _ _ _

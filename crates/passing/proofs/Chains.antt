@@ -6,7 +6,7 @@ use mathlib.Core.Path.{_≡_, refl, sym, ap, subst}
 use mathlib.Core.Bool.{Bool, true, false, cond, _||_}
 use mathlib.Core.Logic.{_⊎_, inl, inr}
 use mathlib.Core.Option.{Option, none, some}
-use mathlib.Core.List.{List, [], _∷_}
+use mathlib.Core.List.{List, [], _∷_, List·Memᴰ as In, List·Memᴰ·head as first, List·Memᴰ·tail as later}
 use lib.Dec.{eqb}
 use lib.ListN.{length}
 use borrow.Author.Tests.{eqb-true, eqb-false, eq-eqb}
@@ -15,10 +15,11 @@ use Rattle.store.specs.Stores.{find}
 use Rattle.store.specs.declared.Found.{Found}
 use Rattle.store.specs.declared.Found.the-variants.{At, Missing}
 use Rattle.store.proofs.Ordering.{find-at-lt}
-use Rattle.pending.specs.Pending.{Pending, View, blanks, calls, names, opens, closes, commas, bars, plain, view}
-use Rattle.passing.specs.Passing.{textFault, usedBy, usesOf, usesIn, textAt, uses, reachesAny, reaches, macroFault, yes, passAt, passFrom, passOf}
+use Rattle.pending.specs.Pending.{Pending, view}
+use Rattle.pending.proofs.Viewing.{by-usage}
+use Rattle.passing.specs.Passing.{textFault, usedBy, usesIn, textAt, uses, reachesAny, reaches, macroFault, yes, passAt, passFrom, passOf}
 use Rattle.passing.specs.Chains.{longest, chainOf, chain}
-use Rattle.passing.specs.Meaning.{In, Walk, first, later, stay, step}
+use Rattle.passing.specs.Meaning.{Walk, stay, step}
 use Rattle.passing.proofs.Lists.{views}
 use Rattle.passing.proofs.Good.{Fine}
 use Rattle.passing.proofs.Usages.{next-left, next-right, fine-text}
@@ -66,19 +67,11 @@ module _ (ms : List Macro) where
   used-below w r j ih (At i) e (later h) = ih h
   used-below w r j ih (Missing i) e h = ih h
 
-  below-at : (v : View) (r : List ℕ) (j : ℕ) → (In j r → j < length ms) → In j (usesOf v ms r) → j < length ms
-  below-at blanks r j ih h = ih h
-  below-at (calls w) r j ih h = used-below w r j ih (find w ms) refl h
-  below-at (names w) r j ih h = ih h
-  below-at (opens c) r j ih h = ih h
-  below-at (closes b) r j ih h = ih h
-  below-at commas r j ih h = ih h
-  below-at (bars n i) r j ih h = ih h
-  below-at plain r j ih h = ih h
-
   pub uses-below : (ps : List Pending) (j : ℕ) → In j (usesIn ms ps) → j < length ms
   unfolding usesIn
-  uses-below (p ∷ ps) j h = below-at (view p) (usesIn ms ps) j (uses-below ps j) h
+  uses-below (p ∷ ps) j h =
+      by-usage (λ (l : List ℕ). In j l → j < length ms) (view p) (λ e. uses-below ps j)
+      (λ w e. used-below w (usesIn ms ps) j (uses-below ps j) (find w ms) refl) h
 
   pub walk-below : {i : ℕ} {l : List ℕ} → Walk ms i l → Below (length ms) l
   walk-below stay = below-nil

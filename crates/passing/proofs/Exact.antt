@@ -6,14 +6,14 @@ use mathlib.Core.Path.{_≡_, refl, sym, ap, _∙_, subst}
 use mathlib.Core.Bool.{Bool, true, false, cond}
 use mathlib.Core.Logic.{_⊎_, inl, inr, _↔_}
 use mathlib.Core.Option.{Option, none, some}
-use mathlib.Core.List.{List, [], _∷_}
+use mathlib.Core.List.{List, [], _∷_, List·Memᴰ as In, List·Memᴰ·head as first, List·Memᴰ·tail as later}
 use lib.Dec.{eqb, leb}
 use lib.ListN.{length}
 use borrow.Author.Tests.{eqb-true, eqb-false, leb-true, leb-false}
 use Rattle.definition.specs.Definitions.{Macro}
 use Rattle.passing.specs.Passing.{orNext, textFault, textAt, uses, reaches, macroFault, yes, fault, passAt, passFrom, passOf}
 use Rattle.passing.specs.Chains.{longest, chainOf, chain}
-use Rattle.passing.specs.Meaning.{Demanded, First, In, Longest, Walk, first, later, stay, step}
+use Rattle.passing.specs.Meaning.{Demanded, First, Longest, Walk, stay, step}
 use Rattle.passing.proofs.Usages.{next-left, next-right, text-exact}
 use Rattle.passing.proofs.Chains.{from-good, uses-below, chain-falls, chain-some}
 use Rattle.passing.proofs.Reaching.{Way, reach-exact}

@@ -1,18 +1,18 @@
 -- Every macro of a state that a run goes through is one that a definition stores, or a start macro.
 -- Assumes nothing.
-use Prim.Native.Nat.{ℕ, zero, suc}
+use Prim.Native.Nat.{ℕ}
 use mathlib.Core.Bool.{true}
-use mathlib.Core.List.{List, [], _∷_}
-use mathlib.Core.Path.{_≡_, refl, subst}
+use mathlib.Core.List.{List, []}
+use mathlib.Core.Path.{_≡_, subst}
 use lib.Dec.{eqb}
 use Rattle.lex.specs.Tokens.{nameOf}
-use Rattle.lex.proofs.Tests.{by-test, and-left, and-right}
+use Rattle.lex.proofs.Tests.{by-test}
 use Rattle.definition.specs.Definitions.{Macro, good, definitionAt}
-use Rattle.store.specs.Stores.{macroAt, define}
-use Rattle.genuine.specs.Fitness.{fitMacro, allFit}
+use Rattle.store.specs.Stores.{noMacro, macroAt}
+use Rattle.genuine.specs.Fitness.{allFit}
 use Rattle.genuine.proofs.Fitting.{good-fit}
-use Rattle.macros.specs.Starting.{rangeOf, emptyMacro, startedFrom, started}
-use Rattle.macros.proofs.Each.{Each, each-define, each-undefine}
+use Rattle.macros.specs.Starting.{started}
+use Rattle.macros.proofs.Each.{Each, each-none, each-get, each-define, each-undefine, each-started, Fit, fit-each, each-fit}
 use Rattle.macros.proofs.Kept.{started-sound}
 use Rattle.handover.specs.Sizes.{HandOver, Rooms, isSound}
 use Rattle.handover.proofs.Laws.{sound-facts}
@@ -25,7 +25,7 @@ use Rattle.turns.specs.Through.{Through, start, next}
 use Rattle.passing.specs.Meeting.{expansionAt}
 use Rattle.passing.proofs.Keeping.{Sound, sound-nil}
 use Rattle.passing.proofs.Sound.{macro-sound}
-use Rattle.passing.proofs.Cases.{Leaves, same, defined, undefined, forgotten, Kinds, turn-is}
+use Rattle.passing.proofs.Cases.{Behind, same, defined, undefined, forgotten, Kinds, turn-is}
 
 -- ---- what holds of each macro that a definition stores
 
@@ -36,11 +36,11 @@ module _ (P : Macro → Type 0) (stored : (s : List ℕ) (i : ℕ) (m : Macro) (
   TurnEach (stop n f p m) = Unit {0}
   TurnEach finished = Unit {0}
 
-  leaves-each : (h : Here) (ms : List Macro) → Each P (h .state .macros) → Leaves h ms → Each P ms
-  leaves-each h ms ok same = ok
-  leaves-each h ms ok (defined {m = m} {e = e} q) = each-define P m (h .state .macros) (stored (h .body) (h .token .end) m e q) ok
-  leaves-each h ms ok (undefined w) = each-undefine P w (h .state .macros) ok
-  leaves-each h ms ok forgotten = tt
+  behind-each : (h : Here) (ms : List Macro) → Each P (h .state .macros) → Behind h ms → Each P ms
+  behind-each h ms ok same = ok
+  behind-each h ms ok (defined {m = m} {e = e} q) = each-define P m (h .state .macros) (stored (h .body) (h .token .end) m e q) ok
+  behind-each h ms ok (undefined w) = each-undefine P w (h .state .macros) ok
+  behind-each h ms ok forgotten = each-none P
 
   usage-each : (h : Here) → Each P (h .state .macros) → TurnEach (usageTurn h)
   unfolding TurnEach
@@ -51,7 +51,7 @@ module _ (P : Macro → Type 0) (stored : (s : List ℕ) (i : ℕ) (m : Macro) (
   kinds-each h ok =
       record {
         refused = λ n p. tt;
-        goes = λ fs cs ms l. leaves-each h ms ok l;
+        goes = λ fs cs ms l. behind-each h ms ok l;
         wrote = λ ws fs c r. ok;
         used = λ q. usage-each h ok;
       }
@@ -68,19 +68,6 @@ module _ (P : Macro → Type 0) (stored : (s : List ℕ) (i : ℕ) (m : Macro) (
 
 -- ---- fit macros, of a hand-over without refusal 1
 
-abbrev Fit : Macro → Type 0
-Fit m = fitMacro m ≡ true
-
-fit-each : (ms : List Macro) → allFit ms ≡ true → Each Fit ms
-unfolding allFit
-fit-each [] h = tt
-fit-each (m ∷ ms) h = (and-left (fitMacro m) (allFit ms) h, fit-each ms (and-right (fitMacro m) (allFit ms) h))
-
-each-fit : (ms : List Macro) → Each Fit ms → allFit ms ≡ true
-unfolding allFit
-each-fit [] h = refl
-each-fit (m ∷ ms) h = rw (h .0) (each-fit ms (h .1))
-
 pub all-fit : (x : Context) (s s′ : State) → allFit (s .macros) ≡ true → Through x s s′ → allFit (s′ .macros) ≡ true
 all-fit x s s′ ok t = each-fit (s′ .macros) (all-each Fit good-fit x s s′ (fit-each (s .macros) ok) t)
 
@@ -95,21 +82,9 @@ fit-through h r s e t = all-fit (contextOf h r) (startOf h r) s (start-fit h r e
 abbrev Kept : Macro → Type 0
 Kept m = Sound (formalsOf m)
 
-start-kept : (s : List ℕ) (vs : List (List ℕ)) (ms : List Macro) → Each Kept ms → Each Kept (startedFrom s vs ms)
-unfolding startedFrom
-start-kept s [] ms h = h
-start-kept s (v ∷ vs) ms h =
-    let m : Macro = emptyMacro (rangeOf s v) in
-    start-kept s vs (define m ms) (each-define Kept m ms sound-nil h)
-
-kept-at : (ms : List Macro) → Each Kept ms → (i : ℕ) → Sound (formalsOf (macroAt ms i))
-kept-at [] h i = sound-nil
-kept-at (m ∷ ms) h zero = h .0
-kept-at (m ∷ ms) h (suc i) = kept-at ms (h .1) i
-
 pub sound-through : (h : HandOver) (r : Rooms) (s : State) → Through (contextOf h r) (startOf h r) s → (i : ℕ)
     → Sound (formalsOf (macroAt (s .macros) i))
-sound-through h r s t =
-    kept-at (s .macros)
+sound-through h r s t i =
+    each-get Kept (s .macros) i noMacro
     (all-each Kept (λ b i m e q. macro-sound m (good-fit b i m e q)) (contextOf h r) (startOf h r) s
-    (start-kept (h .store) (h .starts) [] tt) t)
+    (each-started Kept (λ w. sound-nil) (h .store) (h .starts) [] (each-none Kept)) t) sound-nil

@@ -7,9 +7,8 @@ use mathlib.Core.List.{List, [], _∷_, _++_}
 use Rattle.definition.specs.Definitions.{Parameter, Macro}
 use Rattle.store.specs.Stores.{macroAt, find}
 use Rattle.store.specs.declared.Found.the-variants.{At}
-use Rattle.pending.specs.Pending.{View, calls}
+use Rattle.pending.specs.Pending.{View, calls, isCall}
 use Rattle.replace.specs.Replacing.{enough}
-use Rattle.expand.specs.Expanding.{isCall}
 use Rattle.passing.specs.Passing.{formalsOf}
 use Rattle.passing.proofs.Lists.{Listed, listed-more}
 

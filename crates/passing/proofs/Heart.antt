@@ -18,18 +18,19 @@ use Rattle.store.specs.declared.Found.{Found}
 use Rattle.store.specs.declared.Found.the-variants.{At, Missing}
 use Rattle.store.proofs.Ordering.{find-at-lt}
 use Rattle.writing.specs.Written.{Room}
-use Rattle.pending.specs.Pending.{Pending, fileTokens, fileFrom, view}
+use Rattle.pending.specs.Pending.{Pending, fileTokens, fileFrom, isCall, view}
 use Rattle.arguments.specs.Arguments.{Args, bad, args, seek}
+use Rattle.arguments.proofs.Collecting.{part-due}
 use Rattle.replace.specs.Replacing.{Got, got, enough, Listed, listed, accepted, listFor, withList, replaceBy, replace}
-use Rattle.expand.specs.Expanding.{Outer, onGot, isCall, onward, first, expand}
+use Rattle.expand.specs.Expanding.{Outer, onGot, onward, first, expand}
 use Rattle.passing.specs.Passing.{formalsOf, yes, passOf}
 use Rattle.passing.specs.Chains.{chain, noUsage, noUsages, quiet, tameBy, tame, chainBy, chainFrom}
 use Rattle.passing.specs.Meeting.{Soft}
-use Rattle.passing.proofs.Lists.{more, Collected, ended, pushed, cut, close-none, part-none}
+use Rattle.passing.proofs.Lists.{more, Collected, ended, pushed, cut, close-none}
 use Rattle.passing.proofs.Reading.{read, Sought, there, here, sought-of}
 use Rattle.passing.proofs.Good.{fine-nil, fine-plain}
-use Rattle.passing.proofs.Placing.{Every, every-nil, every-cons}
-use Rattle.passing.proofs.Keeping.{All, all-nil, all-cons, Val, Sound, empty}
+use Rattle.passing.proofs.Placing.{All, all-nil, all-cons}
+use Rattle.passing.proofs.Keeping.{Val, Sound, empty}
 use Rattle.passing.proofs.Running.{Calm, Under, High, no-call, textOf, Going, going, Part, part-of, put-in, replaced-by, onward-calm}
 
 -- ---- tokens of a file come out of no macro text
@@ -54,12 +55,12 @@ module _ (ms : List Macro) (h : ℕ) where
 
   record Quiet (due : List ℕ) (a : List Pending) (xs : List (List Pending)) : Type 0 where
     argument : Val ms (High ms h) due a
-    others : Every (λ x. Val ms (High ms h) [] x) xs
+    others : All (λ x. Val ms (High ms h) [] x) xs
 
   quiet-of : {ps : List Pending} {due : List ℕ} {a : List Pending} {xs : List (List Pending)} {r : List Pending}
       → Collected ps due a xs r → All Bare ps → noUsage a ≡ true → noUsages xs ≡ true → Quiet due a xs
   unfolding noUsage noUsages
-  quiet-of (ended {p = p} {due = due} e) b n q = record { argument = empty ms (High ms h) due (close-none (view p) due e); others = every-nil }
+  quiet-of (ended {p = p} {due = due} e) b n q = record { argument = empty ms (High ms h) due (close-none (view p) due e); others = all-nil }
   quiet-of (pushed {p = p} {a = a} d e c) (all-cons x b) n q =
       let i : isCall (view p) ≡ false = not-true (isCall (view p)) (and-left (not (isCall (view p))) (noUsage a) n) in
       let k = quiet-of c b (and-right (not (isCall (view p))) (noUsage a) n) q in
@@ -73,19 +74,19 @@ module _ (ms : List Macro) (h : ℕ) where
       }
   quiet-of (cut {p = p} {due = due} {a = a} {xs = xs} e c) (all-cons x b) n q =
       let k = quiet-of c b (and-left (noUsage a) (noUsages xs) q) (and-right (noUsage a) (noUsages xs) q) in
-      record { argument = empty ms (High ms h) due (part-none (view p) due e); others = every-cons (k .argument) (k .others) }
+      record { argument = empty ms (High ms h) due (part-due (view p) due e); others = all-cons (k .argument) (k .others) }
 
   quiet-sought : {ps : List Pending} {a : List Pending} {xs : List (List Pending)} {r : List Pending}
-      → Sought ps (args a xs r) → All Bare ps → noUsages (a ∷ xs) ≡ true → Every (λ x. Val ms (High ms h) [] x) (a ∷ xs)
+      → Sought ps (args a xs r) → All Bare ps → noUsages (a ∷ xs) ≡ true → All (λ x. Val ms (High ms h) [] x) (a ∷ xs)
   unfolding noUsages
   quiet-sought (there e s) (all-cons x b) q = quiet-sought s b q
   quiet-sought {a = a} {xs = xs} (here e (read c)) (all-cons x b) q =
       let k = quiet-of c b (and-left (noUsage a) (noUsages xs) q) (and-right (noUsage a) (noUsages xs) q) in
-      every-cons (k .argument) (k .others)
+      all-cons (k .argument) (k .others)
 
   -- an accepted list of such arguments
   data Valued : Listed → Type 0 where
-    valued : {xs : List (List Pending)} {r : List Pending} → Every (λ x. Val ms (High ms h) [] x) xs → Valued (listed xs r)
+    valued : {xs : List (List Pending)} {r : List Pending} → All (λ x. Val ms (High ms h) [] x) xs → Valued (listed xs r)
 
   valued-sought : (fs : List Parameter) (ps : List Pending) → All Bare ps → (g : Args) → Sought ps g → quiet (accepted fs g) ≡ true
       → Valued (accepted fs g)
@@ -95,7 +96,7 @@ module _ (ms : List Macro) (h : ℕ) where
       (λ e k. true-false false k refl) q
 
   valued-for : (fs : List Parameter) (ps : List Pending) → All Bare ps → quiet (listFor fs ps) ≡ true → Valued (listFor fs ps)
-  valued-for [] ps b q = valued every-nil
+  valued-for [] ps b q = valued all-nil
   valued-for (f ∷ fs) ps b q = valued-sought (f ∷ fs) ps b (seek ps) (sought-of ps) q
 
   -- ---- its expansion

@@ -11,17 +11,17 @@ use Rattle.lex.specs.Tokens.{inFile, tokens}
 use Rattle.lex.specs.declared.Token.{Token}
 use Rattle.lex.proofs.Tests.{and-left, and-right}
 use Rattle.definition.specs.Definitions.{Parameter, parameter, Macro}
-use Rattle.pending.specs.Pending.{Pending, isSpacing, textToken, textTokens, View, view}
+use Rattle.pending.specs.Pending.{Pending, isSpacing, textToken, textTokens, View, isCall, view}
 use Rattle.arguments.specs.Arguments.{args}
+use Rattle.arguments.proofs.Collecting.{part-due}
 use Rattle.replace.specs.Tidying.{cleaned, beforeNewline, isBackslash, cleanedAll, dropLeft, keepLast, dropRight, tidy, tidyAll}
 use Rattle.replace.specs.Replacing.{fallback, imageOf, inPlace}
-use Rattle.expand.specs.Expanding.{isCall}
 use Rattle.passing.specs.Chains.{noUsage}
-use Rattle.passing.proofs.Lists.{views, Shut, done, more, Listed, Collected, ended, pushed, cut, listed-inside, close-none, part-none}
+use Rattle.passing.proofs.Lists.{views, Shut, done, more, Listed, Collected, ended, pushed, cut, listed-inside, close-none}
 use Rattle.passing.proofs.Reading.{read, Sought, there, here}
-use Rattle.passing.proofs.Trimming.{allowed-keep, unbarred, view-cleaned, shut-cleaned, shut-left, shut-right, listed-cleaned, listed-right}
+use Rattle.passing.proofs.Trimming.{view-cleaned, keep-unbarred, shut-cleaned, shut-left, shut-right, listed-cleaned, listed-right}
 use Rattle.passing.proofs.Good.{Fine, fine-nil, fine-call, fine-plain, good-map, fine-tail, fine-head, fine-append}
-use Rattle.passing.proofs.Placing.{views-join, Image, itself, valued, image-of, listed-placed, Every, every-nil, every-cons, Defaults, default-nil, default-cons}
+use Rattle.passing.proofs.Placing.{views-join, Image, itself, valued, image-of, listed-placed, All, all-nil, all-cons, Defaults, default-nil, default-cons}
 
 -- ---- no usage
 
@@ -73,13 +73,9 @@ fine-cleaned {ms} (p ∷ ps) {due} (more d h k) f = go (isBackslash p && beforeN
   where
     go : (b : Bool) → Fine ms (views (cleanedAll ps)) → Fine ms (views (cond b (cleanedAll ps) (cleaned p ∷ cleanedAll ps)))
     go true g = g
-    go false g = clean-head p (unbarred p (allowed-keep (view p) due d h)) (λ n l. listed-cleaned ps l) f g
+    go false g = clean-head p (keep-unbarred p due d h) (λ n l. listed-cleaned ps l) f g
 
 -- ---- a property of each pending token
-
-pub data All (P : Pending → Type 0) : List Pending → Type 0 where
-  all-nil : All P []
-  all-cons : {p : Pending} {ps : List Pending} → P p → All P ps → All P (p ∷ ps)
 
 -- cleaning a token that nothing bars keeps it
 abbrev pub Lasting : (Pending → Type 0) → Type 0
@@ -119,7 +115,7 @@ module _ {P : Pending → Type 0} where
     where
       go : (b : Bool) → All P (cleanedAll ps) → All P (cond b (cleanedAll ps) (cleaned p ∷ cleanedAll ps))
       go true k = k
-      go false k = all-cons (c p (unbarred p (allowed-keep (view p) due d e)) x) k
+      go false k = all-cons (c p (keep-unbarred p due d e) x) k
 
 -- a value: brackets match, no comma outside them, no quote mark; its usages good within it
 pub record Val (ms : List Macro) (P : Pending → Type 0) (due : List ℕ) (a : List Pending) : Type 0 where
@@ -129,7 +125,7 @@ pub record Val (ms : List Macro) (P : Pending → Type 0) (due : List ℕ) (a : 
 
 pub record Taken (ms : List Macro) (P : Pending → Type 0) (due : List ℕ) (a : List Pending) (xs : List (List Pending)) (r : List Pending) : Type 0 where
   pub first : Val ms P due a
-  pub others : Every (λ x. Val ms P [] x) xs
+  pub others : All (λ x. Val ms P [] x) xs
   pub rest-fine : Fine ms (views r)
   pub rest-each : All P r
 
@@ -148,7 +144,7 @@ module _ (ms : List Macro) (P : Pending → Type 0) where
   pub taken-of : {ps : List Pending} {due : List ℕ} {a : List Pending} {xs : List (List Pending)} {r : List Pending}
       → Collected ps due a xs r → Fine ms (views ps) → All P ps → Taken ms P due a xs r
   taken-of (ended {p = p} {due = due} h) f (all-cons x k) =
-      record { first = empty due (close-none (view p) due h); others = every-nil; rest-fine = fine-tail f; rest-each = k }
+      record { first = empty due (close-none (view p) due h); others = all-nil; rest-fine = fine-tail f; rest-each = k }
   taken-of (pushed {p = p} {ps = ps} d h c) f (all-cons x k) =
       let t = taken-of c (fine-tail f) k in
       record {
@@ -163,7 +159,7 @@ module _ (ms : List Macro) (P : Pending → Type 0) where
       }
   taken-of (cut {p = p} {due = due} h c) f (all-cons x k) =
       let t = taken-of c (fine-tail f) k in
-      record { first = empty due (part-none (view p) due h); others = every-cons (t .first) (t .others); rest-fine = t .rest-fine; rest-each = t .rest-each }
+      record { first = empty due (part-due (view p) due h); others = all-cons (t .first) (t .others); rest-fine = t .rest-fine; rest-each = t .rest-each }
 
   pub taken-sought : {ps : List Pending} {a : List Pending} {xs : List (List Pending)} {r : List Pending}
       → Sought ps (args a xs r) → Fine ms (views ps) → All P ps → Taken ms P [] a xs r
@@ -181,10 +177,10 @@ module _ (ms : List Macro) (P : Pending → Type 0) where
         each = all-right (dropLeft a′) (all-left a′ (all-cleaned c a (v .shuts) (v .each)));
       }
 
-  pub vals-tidy : Lasting P → {xs : List (List Pending)} → Every (λ x. Val ms P [] x) xs → Every (λ x. Val ms P [] x) (tidyAll xs)
+  pub vals-tidy : Lasting P → {xs : List (List Pending)} → All (λ x. Val ms P [] x) xs → All (λ x. Val ms P [] x) (tidyAll xs)
   unfolding tidyAll
-  vals-tidy c every-nil = every-nil
-  vals-tidy c (every-cons {a = a} v e) = every-cons (val-tidy c a v) (vals-tidy c e)
+  vals-tidy c all-nil = all-nil
+  vals-tidy c (all-cons {a = a} v e) = all-cons (val-tidy c a v) (vals-tidy c e)
 
   -- ---- defaults
 

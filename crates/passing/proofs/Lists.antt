@@ -6,8 +6,9 @@ use mathlib.Core.List.{List, [], _∷_, _++_}
 use Prim.Native.Nat.{ℕ, suc}
 use native.Mathlib.Omega.{arith}
 use lib.Dec.{eqb}
-use Rattle.pending.specs.Pending.{Pending, View, blanks, calls, names, opens, closes, commas, bars, plain, view}
+use Rattle.pending.specs.Pending.{Pending, View, blanks, opens, view}
 use Rattle.arguments.specs.Arguments.{Move, keep, part, close, fail, closing, comma, moveOf}
+use Rattle.arguments.proofs.Moves.{by-move}
 
 abbrev pub views : List Pending → List View
 views [] = []
@@ -47,14 +48,10 @@ plain-under : (e d x : List ℕ) → keep e ≡ keep d → keep (e ++ x) ≡ kee
 plain-under e d x h = ap (λ z. keep (z ++ x)) (keep-same (keep e) e d refl h)
 
 pub move-under : (v : View) (e d x : List ℕ) → moveOf v e ≡ keep d → moveOf v (e ++ x) ≡ keep (d ++ x)
-move-under blanks e d x h = plain-under e d x h
-move-under (calls w) e d x h = plain-under e d x h
-move-under (names w) e d x h = plain-under e d x h
-move-under (opens k) e d x h = ap (λ z. keep (z ++ x)) (keep-same (keep (k ∷ e)) (k ∷ e) d refl h)
-move-under (closes b) e d x h = closing-under b e d x h
-move-under commas e d x h = comma-under e d x h
-move-under (bars n i) e d x h = keep-fail (fail n i) d n i h refl
-move-under plain e d x h = plain-under e d x h
+move-under v e d x =
+    by-move (λ (m : List ℕ → Move). m e ≡ keep d → m (e ++ x) ≡ keep (d ++ x)) (plain-under e d x)
+    (λ c h. ap (λ z. keep (z ++ x)) (keep-same (keep (c ∷ e)) (c ∷ e) d refl h)) (λ b. closing-under b e d x) (comma-under e d x)
+    (λ n i h. keep-fail (fail n i) d n i h refl) v
 
 -- a token that ends an inner list, or one of its arguments, is a part of the argument around it
 closing-close : (b : ℕ) (e x : List ℕ) → closing b e ≡ close → closing b (e ++ (41 ∷ x)) ≡ keep x
@@ -74,14 +71,9 @@ comma-close [] x h = cc
 comma-close (c ∷ e) x h = keep-close (comma (c ∷ e)) (c ∷ e) refl h
 
 pub move-close : (v : View) (e x : List ℕ) → moveOf v e ≡ close → moveOf v (e ++ (41 ∷ x)) ≡ keep x
-move-close blanks e x h = keep-close (keep e) e refl h
-move-close (calls w) e x h = keep-close (keep e) e refl h
-move-close (names w) e x h = keep-close (keep e) e refl h
-move-close (opens k) e x h = keep-close (keep (k ∷ e)) (k ∷ e) refl h
-move-close (closes b) e x h = closing-close b e x h
-move-close commas e x h = comma-close e x h
-move-close (bars n i) e x h = cc
-move-close plain e x h = keep-close (keep e) e refl h
+move-close v e x =
+    by-move (λ (m : List ℕ → Move). m e ≡ close → m (e ++ (41 ∷ x)) ≡ keep x) (keep-close (keep e) e refl)
+    (λ c. keep-close (keep (c ∷ e)) (c ∷ e) refl) (λ b. closing-close b e x) (comma-close e x) (λ n i h. cc) v
 
 closing-part : {A : Type 0} (b : ℕ) (e : List ℕ) → closing b e ≡ part → A
 closing-part {A} b [] h = go (eqb b 41) h
@@ -100,14 +92,9 @@ comma-part [] x h = refl
 comma-part (c ∷ e) x h = keep-part (comma (c ∷ e)) (c ∷ e) refl h
 
 pub move-part : (v : View) (e x : List ℕ) → moveOf v e ≡ part → moveOf v (e ++ (41 ∷ x)) ≡ keep (41 ∷ x)
-move-part blanks e x h = keep-part (keep e) e refl h
-move-part (calls w) e x h = keep-part (keep e) e refl h
-move-part (names w) e x h = keep-part (keep e) e refl h
-move-part (opens k) e x h = keep-part (keep (k ∷ e)) (k ∷ e) refl h
-move-part (closes b) e x h = closing-part b e h
-move-part commas e x h = comma-part e x h
-move-part (bars n i) e x h = cc
-move-part plain e x h = keep-part (keep e) e refl h
+move-part v e x =
+    by-move (λ (m : List ℕ → Move). m e ≡ part → m (e ++ (41 ∷ x)) ≡ keep (41 ∷ x)) (keep-part (keep e) e refl)
+    (λ c. keep-part (keep (c ∷ e)) (c ∷ e) refl) (λ b. closing-part b e) (comma-part e x) (λ n i h. cc) v
 
 -- a list that is read to its end: how many arguments end in it from here on
 pub data Counted : List View → List ℕ → ℕ → Type 0 where
@@ -187,7 +174,7 @@ listed-inside (p ∷ ps) {due = due} {n = n} c (opened e g) =
     let k = pushed-at c (ap (λ v. moveOf v due) e) in
     subst (λ z. Listed (views z) n) (sym (k .eq)) (opened e (counted-inside ps [] due (41 ∷ due) refl (k .rest) g))
 
--- what ends a list or an argument leaves nothing due
+-- what ends a list leaves nothing due
 closing-none : (b : ℕ) (e : List ℕ) → closing b e ≡ close → e ≡ []
 closing-none b [] h = refl
 closing-none b (c ∷ e) h = go (eqb b c) h
@@ -200,26 +187,7 @@ comma-none : (e : List ℕ) → comma e ≡ close → e ≡ []
 comma-none [] h = refl
 comma-none (x ∷ e) h = keep-close (comma (x ∷ e)) (x ∷ e) refl h
 
-comma-one : (e : List ℕ) → comma e ≡ part → e ≡ []
-comma-one [] h = refl
-comma-one (x ∷ e) h = keep-part (comma (x ∷ e)) (x ∷ e) refl h
-
 pub close-none : (v : View) (e : List ℕ) → moveOf v e ≡ close → e ≡ []
-close-none blanks e h = keep-close (keep e) e refl h
-close-none (calls w) e h = keep-close (keep e) e refl h
-close-none (names w) e h = keep-close (keep e) e refl h
-close-none (opens k) e h = keep-close (keep (k ∷ e)) (k ∷ e) refl h
-close-none (closes b) e h = closing-none b e h
-close-none commas e h = comma-none e h
-close-none (bars n i) e h = cc
-close-none plain e h = keep-close (keep e) e refl h
-
-pub part-none : (v : View) (e : List ℕ) → moveOf v e ≡ part → e ≡ []
-part-none blanks e h = keep-part (keep e) e refl h
-part-none (calls w) e h = keep-part (keep e) e refl h
-part-none (names w) e h = keep-part (keep e) e refl h
-part-none (opens k) e h = keep-part (keep (k ∷ e)) (k ∷ e) refl h
-part-none (closes b) e h = closing-part b e h
-part-none commas e h = comma-one e h
-part-none (bars n i) e h = cc
-part-none plain e h = keep-part (keep e) e refl h
+close-none v e =
+    by-move (λ (m : List ℕ → Move). m e ≡ close → e ≡ []) (keep-close (keep e) e refl) (λ c. keep-close (keep (c ∷ e)) (c ∷ e) refl)
+    (λ b. closing-none b e) (comma-none e) (λ n i h. cc) v

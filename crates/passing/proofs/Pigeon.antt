@@ -3,13 +3,12 @@
 use mathlib.Core.Path.{_≡_, refl, sym, ap, subst}
 use mathlib.Core.Bool.{Bool, true, false, cond}
 use mathlib.Core.Logic.{_⊎_, inl, inr}
-use mathlib.Core.List.{List, [], _∷_}
+use mathlib.Core.List.{List, [], _∷_, List·Memᴰ as In, List·Memᴰ·head as first, List·Memᴰ·tail as later}
 use Prim.Native.Nat.{ℕ, zero, suc, _<_, _≤_}
 use native.Mathlib.Omega.{arith}
 use lib.Dec.{eqb}
 use lib.ListN.{length}
 use borrow.Author.Tests.{eqb-true, eqb-false}
-use Rattle.passing.specs.Meaning.{In, first, later}
 
 pub data Twice : List ℕ → Type 0 where
   now : {x : ℕ} {l : List ℕ} → In x l → Twice (x ∷ l)
@@ -90,13 +89,6 @@ pigeon (suc n) l h k = go (twice-or-few n l) (λ j. pigeon n (others n l) (below
 abbrev NotNil : List ℕ → Type 0
 NotNil [] = ⊥
 NotNil (t ∷ ts) = Unit {0}
-
-in-some : {x : ℕ} {l : List ℕ} → In x l → NotNil l
-in-some (first e) = tt
-in-some (later h) = tt
-
-pub none-in : {A : Type 0} {x : ℕ} → In x [] → A
-none-in h = absurd (in-some h)
 
 twice-some : {l : List ℕ} → Twice l → NotNil l
 twice-some (now h) = tt

@@ -9,10 +9,10 @@ use native.Mathlib.Omega.{arith}
 use Rattle.text.specs.Bytes.{same}
 use Rattle.lex.specs.declared.Token.{Token}
 use Rattle.definition.specs.Definitions.{Parameter, parameter}
-use Rattle.pending.specs.Pending.{Pending, textToken, textTokens, View, blanks, calls, names, opens, closes, commas, bars, plain, view}
+use Rattle.pending.specs.Pending.{Pending, textToken, textTokens, View, names, isCall, view}
+use Rattle.pending.proofs.Viewing.{by-name}
 use Rattle.arguments.specs.Arguments.{keep, moveOf}
 use Rattle.replace.specs.Replacing.{fallback, orElse, value, instead, imageOf, inPlace}
-use Rattle.expand.specs.Expanding.{isCall}
 use Rattle.passing.proofs.Lists.{views, keep-close, keep-part, keep-same, Counted, last, kept, parted, Shut, Listed, skip, opened, counted-shut}
 
 -- ---- views of joined lists, and of the tokens of a text
@@ -38,22 +38,12 @@ pub data Image (f : List ℕ → Option (List Pending)) (p : Pending) : List Pen
   itself : Image f p (p ∷ [])
   valued : (w : List ℕ) {a : List Pending} → f w ≡ some a → ((due : List ℕ) → moveOf (view p) due ≡ keep due) → isCall (view p) ≡ false → Image f p a
 
-image-at : (f : List ℕ → Option (List Pending)) (p : Pending) (v : View) → view p ≡ v → Image f p (imageOf v p f)
-image-at f p blanks e = itself
-image-at f p (calls w) e = itself
-image-at f p (names w) e = go (f w) refl
-  where
-    go : (o : Option (List Pending)) → f w ≡ o → Image f p (instead o p)
-    go none h = itself
-    go (some a) h = valued w h (λ due. ap (λ (v : View). moveOf v due) e) (ap isCall e)
-image-at f p (opens c) e = itself
-image-at f p (closes b) e = itself
-image-at f p commas e = itself
-image-at f p (bars n i) e = itself
-image-at f p plain e = itself
-
 pub image-of : (f : List ℕ → Option (List Pending)) (p : Pending) → Image f p (imageOf (view p) p f)
-image-of f p = image-at f p (view p) refl
+image-of f p = by-name (Image f p) (view p) itself (λ w e. go w e (f w) refl)
+  where
+    go : (w : List ℕ) → view p ≡ names w → (o : Option (List Pending)) → f w ≡ o → Image f p (instead o p)
+    go w e none h = itself
+    go w e (some a) h = valued w h (λ due. ap (λ (v : View). moveOf v due) e) (ap isCall e)
 
 -- values in place of names leave the number of arguments
 module _ (f : List ℕ → Option (List Pending)) (ok : (w : List ℕ) (a : List Pending) → f w ≡ some a → Shut (views a) []) (rest : List Pending) where
@@ -83,9 +73,9 @@ module _ (f : List ℕ → Option (List Pending)) (ok : (w : List ℕ) (a : List
 
 -- ---- what holds of every argument and every default, holds of every value
 
-pub data Every (P : List Pending → Type 0) : List (List Pending) → Type 0 where
-  every-nil : Every P []
-  every-cons : {a : List Pending} {xs : List (List Pending)} → P a → Every P xs → Every P (a ∷ xs)
+pub data All {A : Type 0} (P : A → Type 0) : List A → Type 0 where
+  all-nil : All P []
+  all-cons : {a : A} {l : List A} → P a → All P l → All P (a ∷ l)
 
 pub data Defaults (P : List Pending → Type 0) (set : List ℕ) : List Parameter → Type 0 where
   default-nil : Defaults P set []
@@ -100,10 +90,10 @@ module _ (P : List Pending → Type 0) (set : List ℕ) where
   or-else d [] p q = p
   or-else d (x ∷ xs) p q = q
 
-  pub value-holds : {fs : List Parameter} {xs : List (List Pending)} → Defaults P set fs → Every P xs → (w : List ℕ) (a : List Pending) → value set fs xs w ≡ some a → P a
+  pub value-holds : {fs : List Parameter} {xs : List (List Pending)} → Defaults P set fs → All P xs → (w : List ℕ) (a : List Pending) → value set fs xs w ≡ some a → P a
   unfolding value
   value-holds default-nil es w a e = absurd (let z : _≡_ {A = ℕ} 0 1 = cc in omega arith)
-  value-holds (default-cons {f = f} {d = d} {fs = fs} p ds) every-nil w a e =
-      chosen (same w f) (fallback set d) (value set fs [] w) a p (value-holds ds every-nil w a) e
-  value-holds (default-cons {f = f} {d = d} {fs = fs} p ds) (every-cons {a = x} {xs = xs} q es) w a e =
+  value-holds (default-cons {f = f} {d = d} {fs = fs} p ds) all-nil w a e =
+      chosen (same w f) (fallback set d) (value set fs [] w) a p (value-holds ds all-nil w a) e
+  value-holds (default-cons {f = f} {d = d} {fs = fs} p ds) (all-cons {a = x} {l = xs} q es) w a e =
       chosen (same w f) (orElse set d x) (value set fs xs w) a (or-else d x p q) (value-holds ds es w a) e

@@ -5,14 +5,14 @@ use native.Mathlib.Omega.{arith}
 use mathlib.Core.Path.{_≡_, refl, sym, subst}
 use mathlib.Core.Bool.{Bool, true, false, _||_}
 use mathlib.Core.Logic.{_⊎_, inl, inr, _↔_}
-use mathlib.Core.List.{List, [], _∷_}
+use mathlib.Core.List.{List, [], _∷_, List·Memᴰ as In, List·Memᴰ·head as first, List·Memᴰ·tail as later, List·Memᴰ·not-nil as none-in}
 use lib.Dec.{eqb, leb}
 use lib.ListN.{length}
 use borrow.Author.Tests.{eqb-true, leb-true, leb-false}
 use Rattle.definition.specs.Definitions.{Macro}
 use Rattle.passing.specs.Passing.{uses, reachesAny, reaches}
-use Rattle.passing.specs.Meaning.{In, Walk, first, later, stay, step}
-use Rattle.passing.proofs.Pigeon.{Twice, now, after, pigeon, none-in, none-twice}
+use Rattle.passing.specs.Meaning.{Walk, stay, step}
+use Rattle.passing.proofs.Pigeon.{Twice, now, after, pigeon, none-twice}
 use Rattle.passing.proofs.Chains.{walk-below, walk-reaches}
 
 module _ (ms : List Macro) where
@@ -89,14 +89,14 @@ module _ (ms : List Macro) where
   -- from where k stands on
   path-from : {i j : ℕ} (k n : ℕ) {l : List ℕ} → Path i j l → In k l → length l ≤ suc n → (k ≡ j) ⊎ Within k j n
   path-from k n (arrive m) (first e) s = inl e
-  path-from k n (arrive m) (later h) s = none-in h
+  path-from k n (arrive m) (later h) s = absurd (none-in h)
   path-from {j = j} k n (pass-by {l = l} m p) (first e) s =
       inr (record { nodes = l; path = subst (λ (x : ℕ). Path x j l) (sym e) p; size = omega arith })
   path-from {j = j} k n (pass-by {l = l} m p) (later h) s = path-from k n p h (omega arith)
 
   -- a macro that stands twice is visited once
   path-short : {i j : ℕ} (n : ℕ) {l : List ℕ} → Path i j l → Twice l → length l ≤ suc n → Within i j n
-  path-short n (arrive m) (now h) s = none-in h
+  path-short n (arrive m) (now h) s = absurd (none-in h)
   path-short n (arrive m) (after t) s = none-twice t
   path-short {i} {j} zero (pass-by {l = l} m p) t s = let k : 1 ≤ length l = path-some p in absurd (omega arith)
   path-short {i} {j} (suc n) (pass-by {k = k} {l = l} m p) (now h) s = go (path-from k n p h (omega arith))

@@ -6,7 +6,7 @@ use mathlib.Core.Path.{_≡_, refl, sym, ap, _∙_, subst}
 use mathlib.Core.Bool.{Bool, true, false}
 use mathlib.Core.Logic.{_⊎_, inl, inr}
 use mathlib.Core.Option.{some}
-use mathlib.Core.List.{List, [], _∷_, _++_}
+use mathlib.Core.List.{List, [], _∷_, _++_, List·Memᴰ as In, List·Memᴰ·head as first, List·Memᴰ·tail as later}
 use lib.Dec.{eqb, ltb}
 use lib.ListN.{length}
 use Rattle.lex.specs.Tokens.{inText, String, tokens}
@@ -19,21 +19,21 @@ use Rattle.store.specs.declared.Found.{Found}
 use Rattle.store.specs.declared.Found.the-variants.{At, Missing}
 use Rattle.store.proofs.Ordering.{find-at-lt}
 use Rattle.writing.specs.Written.{Written, placed, mapOf, Room, Put, full, fitted, putIn}
-use Rattle.pending.specs.Pending.{Pending, textToken, textTokens, View, blanks, calls, names, opens, closes, commas, bars, plain, isComment, view}
+use Rattle.pending.specs.Pending.{Pending, textToken, textTokens, View, calls, isComment, isCall, view}
+use Rattle.pending.proofs.Viewing.{by-usage}
 use Rattle.arguments.specs.Arguments.{Args, args, seek}
 use Rattle.replace.specs.Tidying.{cleaned, tidyAll}
 use Rattle.replace.specs.Replacing.{value, inPlace, Got, got, enough, Listed, listed, accepted, listFor, withList, replaceBy, replaceAt, replace, deepest}
-use Rattle.expand.specs.Expanding.{Outer, writes, Expansion, ends, Next, onGot, onPut, isCall, dealBy, walk, onward}
+use Rattle.expand.specs.Expanding.{Outer, writes, Expansion, ends, Next, onGot, onPut, walk, onward}
 use Rattle.passing.specs.Passing.{formalsOf, usedBy, usesOf, usesIn, uses, yes, passOf}
 use Rattle.passing.specs.Chains.{chain}
 use Rattle.passing.specs.Meeting.{Soft, whole, pending-list, limit, text-room, map-room}
-use Rattle.passing.specs.Meaning.{In, first, later}
 use Rattle.passing.proofs.Lists.{views}
 use Rattle.passing.proofs.Reading.{Sized, sized, Sought, sought-of, seek-listed}
 use Rattle.passing.proofs.Trimming.{view-cleaned}
 use Rattle.passing.proofs.Good.{Needs, needs-none, needs-list, Good, Fine, fine-call, fine-plain, fine-tail}
-use Rattle.passing.proofs.Placing.{view-text, views-text, Every, every-nil, every-cons, value-holds}
-use Rattle.passing.proofs.Keeping.{All, all-nil, all-cons, Lasting, all-append, Val, Taken, Sound, taken-sought, vals-tidy, defaults-of, fine-placed, each-placed}
+use Rattle.passing.proofs.Placing.{view-text, views-text, All, all-nil, all-cons, value-holds}
+use Rattle.passing.proofs.Keeping.{Lasting, all-append, Val, Taken, Sound, taken-sought, vals-tidy, defaults-of, fine-placed, each-placed}
 use Rattle.passing.proofs.Chains.{sound-of, chain-falls, chain-some}
 use Rattle.passing.proofs.Members.{insert-length, insert-elem}
 
@@ -120,18 +120,18 @@ module _ (ms : List Macro) (h : ℕ) where
 
   -- what its list gives
   data Given : Listed → Type 0 where
-    given : {xs : List (List Pending)} {r : List Pending} → Every (λ x. Val ms (High ms h) [] x) xs → Ready ms h r → Given (listed xs r)
+    given : {xs : List (List Pending)} {r : List Pending} → All (λ x. Val ms (High ms h) [] x) xs → Ready ms h r → Given (listed xs r)
 
   given-sized : (fs : List Parameter) (ps : List Pending) {n : ℕ} (g : Args) → Sized g n → Sought ps g → enough fs n ≡ true → Ready ms h ps
       → Given (accepted fs g)
   given-sized fs ps (args a xs r) (sized e) s k f =
       let t : Taken ms (High ms h) [] a xs r = taken-sought ms (High ms h) s (f .fine) (f .each) in
       by-test Given (enough fs (length (a ∷ xs)))
-      (λ d. given (every-cons (t .first) (t .others)) (record { fine = t .rest-fine; each = t .rest-each }))
+      (λ d. given (all-cons (t .first) (t .others)) (record { fine = t .rest-fine; each = t .rest-each }))
       (λ d. true-false (enough fs (length (a ∷ xs))) (subst (λ (n : ℕ). enough fs n ≡ true) (sym e) k) d)
 
   given-for : (fs : List Parameter) (ps : List Pending) → Needs fs (views ps) → Ready ms h ps → Given (listFor fs ps)
-  given-for [] ps needs-none f = given every-nil f
+  given-for [] ps needs-none f = given all-nil f
   given-for (x ∷ fs) ps (needs-list n l e) f = given-sized (x ∷ fs) ps (seek ps) (seek-listed ps l) (sought-of ps) e f
 
   -- a usage is replaced by its macro, which is not in its set
@@ -170,34 +170,21 @@ module _ (ms : List Macro) (h : ℕ) where
 
       token-high : (p : Pending) (r : List ℕ) → p .own ≡ insertAsc i s → (v : View) → view p ≡ v
           → ((j : ℕ) → In j (usesOf v ms r) → In j (uses ms i)) → High ms h p
-      token-high p r o blanks e k = plain-high p o (ap isCall e)
-      token-high p r o (calls w) e k =
-          record { small = small-own p o; used = λ x j q f. subst (λ (z : List ℕ). Under ms h j z) (sym o) (used-under j (k j (named x j q f))) }
+      token-high p r o v e =
+          by-usage (λ (l : List ℕ). ((j : ℕ) → In j l → In j (uses ms i)) → High ms h p) v (λ c k. plain-high p o (ap isCall e ∙ c))
+          (λ w c k. record { small = small-own p o; used = λ x j q f. subst (λ (z : List ℕ). Under ms h j z) (sym o) (used-under j (k j (named w x j (e ∙ c) q f))) })
         where
-          named : (x : List ℕ) (j : ℕ) → view p ≡ calls x → find x ms ≡ At j → In j (usedBy (find w ms) r)
-          named x j q f =
+          named : (w x : List ℕ) (j : ℕ) → view p ≡ calls w → view p ≡ calls x → find x ms ≡ At j → In j (usedBy (find w ms) r)
+          named w x j c q f =
               let y : x ≡ w = cc in
               subst (λ (z : Found). In j (usedBy z r)) (sym (ap (λ (z : List ℕ). find z ms) (sym y) ∙ f)) (first refl)
-      token-high p r o (names w) e k = plain-high p o (ap isCall e)
-      token-high p r o (opens c) e k = plain-high p o (ap isCall e)
-      token-high p r o (closes b) e k = plain-high p o (ap isCall e)
-      token-high p r o commas e k = plain-high p o (ap isCall e)
-      token-high p r o (bars n a) e k = plain-high p o (ap isCall e)
-      token-high p r o plain e k = plain-high p o (ap isCall e)
 
       used-more : (f : Found) (r : List ℕ) (j : ℕ) → In j r → In j (usedBy f r)
       used-more (At k) r j m = later m
       used-more (Missing k) r j m = m
 
       uses-more : (v : View) (r : List ℕ) (j : ℕ) → In j r → In j (usesOf v ms r)
-      uses-more blanks r j m = m
-      uses-more (calls w) r j m = used-more (find w ms) r j m
-      uses-more (names w) r j m = m
-      uses-more (opens c) r j m = m
-      uses-more (closes b) r j m = m
-      uses-more commas r j m = m
-      uses-more (bars n a) r j m = m
-      uses-more plain r j m = m
+      uses-more v r j m = by-usage (λ (l : List ℕ). In j l) v (λ c. m) (λ w c. used-more (find w ms) r j m)
 
       text-high : (t : List ℕ) (ts : List Token) → ((j : ℕ) → In j (usesIn ms (textTokens t [] ts)) → In j (uses ms i))
           → All (High ms h) (textTokens t (insertAsc i s) ts)
@@ -226,7 +213,7 @@ module _ (ms : List Macro) (h : ℕ) where
 
       -- what is put in
       pub put-in : (fs : List Parameter) (ps : List Pending) (xs : List (List Pending)) (after rest : List Pending) → Sound fs → Ready ms h ps
-          → Every (λ x. Val ms (High ms h) [] x) xs → Ready ms h after → Going after (got (inPlace (value (insertAsc i s) fs (tidyAll xs)) ps) rest)
+          → All (λ x. Val ms (High ms h) [] x) xs → Ready ms h after → Going after (got (inPlace (value (insertAsc i s) fs (tidyAll xs)) ps) rest)
       put-in fs ps xs after rest d t vs a =
           let f = value (insertAsc i s) fs (tidyAll xs) in
           let ok : (w : List ℕ) (x : List Pending) → f w ≡ some x → Val ms (High ms h) [] x =
@@ -261,24 +248,14 @@ module _ (ms : List Macro) (h : ℕ) where
       got-calm : (r : Room) (g : Got) → Gone g → Calm h (onGot next r g)
       got-calm r (got q rest) (gone (going a k)) = ih q rest r a k
 
-      deal-calm : (r : Room) (p : Pending) (ps : List Pending) (wr : Expansion) → Ready ms h (p ∷ ps) → Calm h wr → (v : View) → view p ≡ v
-          → Calm h (dealBy v wr (λ w. onGot next r (replace ms w (p .own) ps)))
-      deal-calm r p ps wr f k blanks e = k
-      deal-calm r p ps wr f k (calls w) e = got-calm r (replace ms w (p .own) ps) (replace-gone p w ps e f)
-      deal-calm r p ps wr f k (names w) e = k
-      deal-calm r p ps wr f k (opens c) e = k
-      deal-calm r p ps wr f k (closes b) e = k
-      deal-calm r p ps wr f k commas e = k
-      deal-calm r p ps wr f k (bars n i) e = k
-      deal-calm r p ps wr f k plain e = k
-
       walk-calm : (ps : List Pending) (r : Room) → Fine ms (views ps) → All (High ms h) ps → Calm h (walk next o ms r ps)
       unfolding walk
       walk-calm [] r f a = calm-ends 0 r whole
       walk-calm (p ∷ ps) r f (all-cons x a) =
           let ws : List Written = placed 0 (o .place) (writes o p) in
-          deal-calm r p ps (onPut ws r (putIn r ws) (λ r′. walk next o ms r′ ps)) (record { fine = f; each = all-cons x a })
-          (put-calm ws r (λ r′. walk next o ms r′ ps) (λ r′. walk-calm ps r′ (fine-tail f) a) (putIn r ws) (put-soft r ws)) (view p) refl
+          by-usage (Calm h) (view p)
+          (λ c. put-calm ws r (λ r′. walk next o ms r′ ps) (λ r′. walk-calm ps r′ (fine-tail f) a) (putIn r ws) (put-soft r ws))
+          (λ w c. got-calm r (replace ms w (p .own) ps) (replace-gone p w ps c (record { fine = f; each = all-cons x a })))
 
     pub onward-calm : (n : ℕ) (o : Outer) (q rest : List Pending) (r : Room) → All (High ms h) q → Ready ms h (q ++ rest) → Calm h (onward n o ms q rest r)
     unfolding onward

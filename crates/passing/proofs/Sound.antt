@@ -19,16 +19,15 @@ use Rattle.lex.proofs.Tests.{by-test, and-left, and-right, true-false}
 use Rattle.lex.proofs.Progress.{token-at, token-ends}
 use Rattle.lex.proofs.Listing.{by-tokens}
 use Rattle.brackets.specs.Steps.{Step, on, done, torn, stepOf}
-use Rattle.afresh.specs.Judging.{isUnfit, isAccented, heldBy, unless, badHeld, badDefault}
+use Rattle.afresh.specs.Unfit.{isAccented, heldBy, unless, isUnfit, unfitHeld, unfitDefault}
 use Rattle.definition.specs.Definitions.{Parameter, parameter, Macro, macro}
 use Rattle.store.specs.Stores.{macroAt}
 use Rattle.genuine.specs.Fitness.{isTrimmed, fitStored, fitDefault, fitFormal, isNamed, fitParameters, fitName, fitMacro, allFit}
 use Rattle.genuine.proofs.Tests.{or-left, or-right, passed}
-use Rattle.pending.specs.Pending.{textToken, textTokens, View, blanks, names, plain, byteView, isBlank, kindView, view}
+use Rattle.pending.specs.Pending.{textToken, textTokens, View, blanks, names, plain, byteView, isBlank, kindView, isCall, view}
 use Rattle.arguments.specs.Arguments.{keep, moveOf}
 use Rattle.arguments.proofs.Moves.{step-keeps}
 use Rattle.replace.specs.Replacing.{fallback}
-use Rattle.expand.specs.Expanding.{isCall}
 use Rattle.expand.proofs.Naming.{byte-quiet}
 use Rattle.passing.specs.Passing.{formalsOf}
 use Rattle.passing.specs.Chains.{noUsage}
@@ -148,36 +147,36 @@ record Closed (d set ks : List ℕ) (ts : List Token) : Type 0 where
   shuts : Shut (views (textTokens d set ts)) ks
   quiet : noUsage (textTokens d set ts) ≡ true
 
-closed-none : (d set ks : List ℕ) → badHeld d ks [] ≡ false → Closed d set ks []
-unfolding badHeld textTokens noUsage
+closed-none : (d set ks : List ℕ) → unfitHeld d ks [] ≡ false → Closed d set ks []
+unfolding unfitHeld textTokens noUsage
 closed-none d set [] h = record { shuts = shut-done; quiet = refl }
 closed-none d set (k ∷ ks) h = true-false true refl h
 
 closed-next : (m : Mode) (d set : List ℕ) (i : ℕ) → i < length d → (ks : List ℕ) (ts : List Token)
-    → ((js : List ℕ) → badHeld d js ts ≡ false → Closed d set js ts) → badHeld d ks (tokenAt m d i ∷ ts) ≡ false → Closed d set ks (tokenAt m d i ∷ ts)
-unfolding badHeld textTokens noUsage view
+    → ((js : List ℕ) → unfitHeld d js ts ≡ false → Closed d set js ts) → unfitHeld d ks (tokenAt m d i ∷ ts) ≡ false → Closed d set ks (tokenAt m d i ∷ ts)
+unfolding unfitHeld textTokens noUsage view
 closed-next m d set i l ks ts f h =
     let t : Token = tokenAt m d i in
-    let p = passed (isUnfit d false t || isAccented d t) (unless (heldBy d t ks) (λ js. badHeld d js ts)) h in
-    let o : Onward (heldBy d t ks) (λ js. badHeld d js ts) = unless-on (heldBy d t ks) (λ js. badHeld d js ts) (p .1) in
+    let p = passed (isUnfit d false t || isAccented d t) (unless (heldBy d t ks) (λ js. unfitHeld d js ts)) h in
+    let o : Onward (heldBy d t ks) (λ js. unfitHeld d js ts) = unless-on (heldBy d t ks) (λ js. unfitHeld d js ts) (p .1) in
     let a : Mild t = unaccented-mild m d i l (or-right (isUnfit d false t) (isAccented d t) (p .0)) in
     let k : Kept (view (textToken d set t)) ks (o .due) =
     rw (first-is m d i l) (kind-kept (o .due) (t .kind) (getD d (t .at) 0) (nameOf d t) ks a (o .steps)) in
     let c : Closed d set (o .due) ts = f (o .due) (o .rest) in
     record { shuts = more (o .due) (k .moves) (c .shuts); quiet = rw (k .quiet) (c .quiet) }
 
-default-closed : (d set : List ℕ) → badDefault d ≡ false → Closed d set [] (tokens inFile d 0)
-unfolding badDefault
+default-closed : (d set : List ℕ) → unfitDefault d ≡ false → Closed d set [] (tokens inFile d 0)
+unfolding unfitDefault
 default-closed d set h =
-    by-tokens d (λ (m : Mode) (i : ℕ) (ts : List Token). (ks : List ℕ) → badHeld d ks ts ≡ false → Closed d set ks ts)
+    by-tokens d (λ (m : Mode) (i : ℕ) (ts : List Token). (ks : List ℕ) → unfitHeld d ks ts ≡ false → Closed d set ks ts)
     (λ m i l ks. closed-none d set ks) (λ m i l q ks. closed-none d set ks)
     (λ m i l q r ks. closed-next m d set i l ks (tokens (modeAfter m (tokenAt m d i)) d (tokenAt m d i .end)) r) inFile 0 [] h
 
 -- ---- fit parameters
 
-fit-good : (d : List ℕ) → fitStored false d ≡ true → badDefault d ≡ false
+fit-good : (d : List ℕ) → fitStored false d ≡ true → unfitDefault d ≡ false
 unfolding fitStored
-fit-good d h = not-true (badDefault d) (and-right (isTrimmed d) (not (badDefault d)) h)
+fit-good d h = not-true (unfitDefault d) (and-right (isTrimmed d) (not (unfitDefault d)) h)
 
 fallback-shut : (d : Option (List ℕ)) → fitDefault d ≡ true → (set : List ℕ) → Shut (views (fallback set d)) []
 fallback-shut none h set = shut-done

@@ -11,79 +11,12 @@ use borrow.Author.Tests.{eqb-true}
 use Rattle.lex.proofs.Tests.{and-left, and-right}
 use Rattle.lex.specs.Tokens.{White, String, Byte}
 use Rattle.storing.specs.Stored.{joinedFrom}
-use Rattle.pending.specs.Pending.{Pending, View, blanks, calls, names, opens, closes, commas, bars, plain, byteView, isSpacing, isComment, kindView, view}
-use Rattle.arguments.specs.Arguments.{keep, part, close, fail, moveOf}
+use Rattle.pending.specs.Pending.{Pending, View, blanks, opens, plain, byteView, isSpacing, isComment, kindView, view, isBarred}
+use Rattle.pending.proofs.Viewing.{free-bar}
+use Rattle.arguments.specs.Arguments.{keep, close, moveOf}
+use Rattle.arguments.proofs.Moves.{stays-free}
 use Rattle.replace.specs.Tidying.{cleaned, beforeNewline, isBackslash, cleanedAll, dropLeft, keepLast, dropRight}
 use Rattle.passing.proofs.Lists.{views, keep-close, keep-part, keep-fail, keep-same, Counted, last, kept, parted, Shut, more, Listed, skip, opened}
-
--- ---- what bars nothing
-
-pub data Allowed : View → Type 0 where
-  allowed-blanks : Allowed blanks
-  allowed-calls : {w : List ℕ} → Allowed (calls w)
-  allowed-names : {w : List ℕ} → Allowed (names w)
-  allowed-opens : {c : ℕ} → Allowed (opens c)
-  allowed-closes : {b : ℕ} → Allowed (closes b)
-  allowed-commas : Allowed commas
-  allowed-plain : Allowed plain
-
-pub allowed-keep : (v : View) (due d : List ℕ) → moveOf v due ≡ keep d → Allowed v
-allowed-keep blanks due d h = allowed-blanks
-allowed-keep (calls w) due d h = allowed-calls
-allowed-keep (names w) due d h = allowed-names
-allowed-keep (opens c) due d h = allowed-opens
-allowed-keep (closes b) due d h = allowed-closes
-allowed-keep commas due d h = allowed-commas
-allowed-keep (bars n i) due d h = keep-fail (fail n i) d n i h refl
-allowed-keep plain due d h = allowed-plain
-
-pub allowed-close : (v : View) (due : List ℕ) → moveOf v due ≡ close → Allowed v
-allowed-close blanks due h = allowed-blanks
-allowed-close (calls w) due h = allowed-calls
-allowed-close (names w) due h = allowed-names
-allowed-close (opens c) due h = allowed-opens
-allowed-close (closes b) due h = allowed-closes
-allowed-close commas due h = allowed-commas
-allowed-close (bars n i) due h = absurd (let z : _≡_ {A = ℕ} 0 1 = cc in omega arith)
-allowed-close plain due h = allowed-plain
-
-pub allowed-part : (v : View) (due : List ℕ) → moveOf v due ≡ part → Allowed v
-allowed-part blanks due h = allowed-blanks
-allowed-part (calls w) due h = allowed-calls
-allowed-part (names w) due h = allowed-names
-allowed-part (opens c) due h = allowed-opens
-allowed-part (closes b) due h = allowed-closes
-allowed-part commas due h = allowed-commas
-allowed-part (bars n i) due h = absurd (let z : _≡_ {A = ℕ} 0 1 = cc in omega arith)
-allowed-part plain due h = allowed-plain
-
-abbrev NotBars : View → Type 0
-NotBars blanks = Unit {0}
-NotBars (calls w) = Unit {0}
-NotBars (names w) = Unit {0}
-NotBars (opens c) = Unit {0}
-NotBars (closes b) = Unit {0}
-NotBars commas = Unit {0}
-NotBars (bars n i) = ⊥
-NotBars plain = Unit {0}
-
-not-barred : {v : View} → Allowed v → NotBars v
-not-barred allowed-blanks = tt
-not-barred allowed-calls = tt
-not-barred allowed-names = tt
-not-barred allowed-opens = tt
-not-barred allowed-closes = tt
-not-barred allowed-commas = tt
-not-barred allowed-plain = tt
-
--- such a token's view is that of its kind
-free-by : (b : Bool) (v : View) (n i : ℕ) → Allowed (cond b v (bars n i)) → b ≡ true
-free-by true v n i a = refl
-free-by false v n i a = absurd (not-barred a)
-
-pub unbarred : (p : Pending) → Allowed (view p) → eqb (p .bar) 0 ≡ true
-unfolding view
-unbarred p a = free-by (eqb (p .bar) 0) (kindView (p .kind) (getD (p .bytes) 0 0) (p .name)) (p .bar) (p .at) a
 
 -- ---- cleaning
 
@@ -146,8 +79,11 @@ view-cleaned p u = go (isComment (p .kind)) refl (eqb (p .kind) String) refl
 cleaned-move : (p : Pending) (due : List ℕ) → eqb (p .bar) 0 ≡ true → moveOf (view (cleaned p)) due ≡ moveOf (view p) due
 cleaned-move p due u = ap (λ (v : View). moveOf v due) (view-cleaned p u)
 
-keep-unbarred : (p : Pending) (due d : List ℕ) → moveOf (view p) due ≡ keep d → eqb (p .bar) 0 ≡ true
-keep-unbarred p due d h = unbarred p (allowed-keep (view p) due d h)
+pub keep-unbarred : (p : Pending) (due d : List ℕ) → moveOf (view p) due ≡ keep d → eqb (p .bar) 0 ≡ true
+keep-unbarred p due d h = free-bar p (stays-free (view p) due (λ n i. keep-fail (moveOf (view p) due) d n i h))
+
+close-unbarred : (p : Pending) (due : List ℕ) → moveOf (view p) due ≡ close → eqb (p .bar) 0 ≡ true
+close-unbarred p due h = free-bar p (stays-free (view p) due (λ n i q. let z : _≡_ {A = ℕ} 0 1 = cc in omega arith))
 
 -- a `\` that is left out is plain
 left-out : (p : Pending) (ps : List Pending) (due : List ℕ) → eqb (p .bar) 0 ≡ true → (isBackslash p && beforeNewline ps) ≡ true → moveOf (view p) due ≡ keep due
@@ -170,7 +106,7 @@ unfolding cleanedAll
 counted-cleaned (p ∷ ps) {due} (last h) = go (isBackslash p && beforeNewline ps) refl
   where
     u : eqb (p .bar) 0 ≡ true
-    u = unbarred p (allowed-close (view p) due h)
+    u = close-unbarred p due h
 
     go : (b : Bool) → (isBackslash p && beforeNewline ps) ≡ b → Counted (views (cond b (cleanedAll ps) (cleaned p ∷ cleanedAll ps))) due 1
     go true e = keep-close (moveOf (view p) due) due (left-out p ps due u e) h
@@ -186,7 +122,7 @@ counted-cleaned (p ∷ ps) {due} {n} (kept d h c) = go (isBackslash p && beforeN
 counted-cleaned (p ∷ ps) {due} (parted {n = m} h c) = go (isBackslash p && beforeNewline ps) refl (counted-cleaned ps c)
   where
     u : eqb (p .bar) 0 ≡ true
-    u = unbarred p (allowed-part (view p) due h)
+    u = free-bar p (stays-free (view p) due (λ n i q. let z : _≡_ {A = ℕ} 0 1 = cc in omega arith))
 
     go : (b : Bool) → (isBackslash p && beforeNewline ps) ≡ b → Counted (views (cleanedAll ps)) [] m → Counted (views (cond b (cleanedAll ps) (cleaned p ∷ cleanedAll ps))) due (suc m)
     go true e g = keep-part (moveOf (view p) due) due (left-out p ps due u e) h
@@ -197,7 +133,7 @@ unfolding cleanedAll
 listed-cleaned (p ∷ ps) {n} (skip e l) = go (isBackslash p && beforeNewline ps) refl (listed-cleaned ps l)
   where
     u : eqb (p .bar) 0 ≡ true
-    u = unbarred p (subst Allowed (sym e) allowed-blanks)
+    u = free-bar p (ap isBarred e)
 
     go : (b : Bool) → (isBackslash p && beforeNewline ps) ≡ b → Listed (views (cleanedAll ps)) n → Listed (views (cond b (cleanedAll ps) (cleaned p ∷ cleanedAll ps))) n
     go true k g = g
@@ -205,7 +141,7 @@ listed-cleaned (p ∷ ps) {n} (skip e l) = go (isBackslash p && beforeNewline ps
 listed-cleaned (p ∷ ps) {n} (opened e c) = go (isBackslash p && beforeNewline ps) refl (counted-cleaned ps c)
   where
     u : eqb (p .bar) 0 ≡ true
-    u = unbarred p (subst Allowed (sym e) allowed-opens)
+    u = free-bar p (ap isBarred e)
 
     go : (b : Bool) → (isBackslash p && beforeNewline ps) ≡ b → Counted (views (cleanedAll ps)) [] n → Listed (views (cond b (cleanedAll ps) (cleaned p ∷ cleanedAll ps))) n
     go true k g =
@@ -260,7 +196,7 @@ unfolding dropRight
 counted-right (p ∷ ps) {due} (last h) = go (dropRight ps)
   where
     one : (b : Bool) → isSpacing (p .kind) ≡ b → Counted (views (cond b [] (p ∷ []))) due 1
-    one true e = keep-close (moveOf (view p) due) due (spacing-keeps p due (unbarred p (allowed-close (view p) due h)) e) h
+    one true e = keep-close (moveOf (view p) due) due (spacing-keeps p due (close-unbarred p due h) e) h
     one false e = last h
 
     go : (qs : List Pending) → Counted (views (keepLast p qs)) due 1

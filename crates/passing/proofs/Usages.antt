@@ -12,10 +12,10 @@ use Rattle.definition.specs.Definitions.{Parameter, Macro}
 use Rattle.store.specs.Stores.{macroAt, find}
 use Rattle.store.specs.declared.Found.{Found}
 use Rattle.store.specs.declared.Found.the-variants.{At, Missing}
-use Rattle.pending.specs.Pending.{Pending, View, blanks, calls, names, opens, closes, commas, bars, plain, view}
+use Rattle.pending.specs.Pending.{Pending, View, calls, isCall, view}
+use Rattle.pending.proofs.Viewing.{by-usage}
 use Rattle.arguments.specs.Arguments.{Args, bad, args, seek}
 use Rattle.replace.specs.Replacing.{enough, barred, listed, accepted, listFor}
-use Rattle.expand.specs.Expanding.{isCall}
 use Rattle.passing.specs.Passing.{orNext, formalsOf, barOf, foundFault, usageFault, faultOf, textFault}
 use Rattle.passing.specs.Meaning.{Accepted, AllAccepted}
 use Rattle.passing.proofs.Lists.{views}
@@ -53,21 +53,16 @@ module _ (ms : List Macro) where
       go (At i) e k = record { number = i; stored = e; list = needs-of (formalsOf (macroAt ms i)) ps k }
       go (Missing i) e k = absurd (let z : _≡_ {A = ℕ} 0 1 = cc in omega arith)
 
-  fine-at : (p : Pending) (ps : List Pending) (v : View) → view p ≡ v → faultOf v ms ps ≡ none → Fine ms (views ps) → Fine ms (views (p ∷ ps))
-  fine-at p ps blanks e h f = fine-plain (ap isCall e) f
-  fine-at p ps (calls w) e h f = fine-call e (good-of w ps h) f
-  fine-at p ps (names w) e h f = fine-plain (ap isCall e) f
-  fine-at p ps (opens c) e h f = fine-plain (ap isCall e) f
-  fine-at p ps (closes b) e h f = fine-plain (ap isCall e) f
-  fine-at p ps commas e h f = fine-plain (ap isCall e) f
-  fine-at p ps (bars n i) e h f = fine-plain (ap isCall e) f
-  fine-at p ps plain e h f = fine-plain (ap isCall e) f
+  fine-at : (p : Pending) (ps : List Pending) → faultOf (view p) ms ps ≡ none → Fine ms (views ps) → Fine ms (views (p ∷ ps))
+  fine-at p ps =
+      by-usage (λ (o : Option ℕ). o ≡ none → Fine ms (views ps) → Fine ms (views (p ∷ ps))) (view p) (λ e h f. fine-plain e f)
+      (λ w e h f. fine-call e (good-of w ps h) f)
 
   pub fine-text : (ps : List Pending) → textFault ms ps ≡ none → Fine ms (views ps)
   unfolding textFault
   fine-text [] h = fine-nil
   fine-text (p ∷ ps) h =
-      fine-at p ps (view p) refl (next-left (faultOf (view p) ms ps) (textFault ms ps) h) (fine-text ps (next-right (faultOf (view p) ms ps) (textFault ms ps) h))
+      fine-at p ps (next-left (faultOf (view p) ms ps) (textFault ms ps) h) (fine-text ps (next-right (faultOf (view p) ms ps) (textFault ms ps) h))
 
   -- ---- in the words of demand 3
 
@@ -108,17 +103,7 @@ module _ (ms : List Macro) where
   none-accepted w ps a = ap (λ (f : Found). foundFault f ms ps) (a .stored) ∙ ap barOf (a .taken)
 
   none-at : (p : Pending) (ps : List Pending) → ((w : List ℕ) → view p ≡ calls w → Accepted ms w ps) → faultOf (view p) ms ps ≡ none
-  none-at p ps a = go (view p) refl
-    where
-      go : (v : View) → view p ≡ v → faultOf v ms ps ≡ none
-      go blanks e = refl
-      go (calls w) e = none-accepted w ps (a w e)
-      go (names w) e = refl
-      go (opens c) e = refl
-      go (closes b) e = refl
-      go commas e = refl
-      go (bars n i) e = refl
-      go plain e = refl
+  none-at p ps a = by-usage (λ (o : Option ℕ). o ≡ none) (view p) (λ e. refl) (λ w e. none-accepted w ps (a w e))
 
   accepted-tail : (p : Pending) (ps : List Pending) → AllAccepted ms (p ∷ ps) → AllAccepted ms ps
   accepted-tail p ps a = record { each = λ before after q w e v. a .each (p ∷ before) after q w (ap (λ (qs : List Pending). p ∷ qs) e) v }
@@ -143,10 +128,10 @@ module _ (ms : List Macro) where
     pub at-fault : usageFault ms name after ≡ some n
     pub good-before : (a b : List Pending) (p : Pending) (w : List ℕ) → before ≡ a ++ (p ∷ b) → view p ≡ calls w → Accepted ms w (b ++ (usage ∷ after))
 
-  bad-here : (p : Pending) (ps : List Pending) (n : ℕ) (v : View) → view p ≡ v → faultOf v ms ps ≡ some n → FirstBad (p ∷ ps) n
-  bad-here p ps n blanks e h = absurd (let z : _≡_ {A = ℕ} 0 1 = cc in omega arith)
-  bad-here p ps n (calls w) e h =
-      record {
+  bad-here : (p : Pending) (ps : List Pending) (n : ℕ) → faultOf (view p) ms ps ≡ some n → FirstBad (p ∷ ps) n
+  bad-here p ps n =
+      by-usage (λ (o : Option ℕ). o ≡ some n → FirstBad (p ∷ ps) n) (view p) (λ e h. absurd (let z : _≡_ {A = ℕ} 0 1 = cc in omega arith))
+      (λ w e h. record {
         before = [];
         usage = p;
         name = w;
@@ -155,17 +140,11 @@ module _ (ms : List Macro) where
         called = e;
         at-fault = h;
         good-before = λ a b q u k v. none-split a b q k;
-      }
+      })
     where
       none-split : {A : Type 0} (a b : List Pending) (q : Pending) → [] ≡ a ++ (q ∷ b) → A
       none-split [] b q k = absurd (let z : _≡_ {A = ℕ} 0 1 = cc in omega arith)
       none-split (x ∷ a) b q k = absurd (let z : _≡_ {A = ℕ} 0 1 = cc in omega arith)
-  bad-here p ps n (names w) e h = absurd (let z : _≡_ {A = ℕ} 0 1 = cc in omega arith)
-  bad-here p ps n (opens c) e h = absurd (let z : _≡_ {A = ℕ} 0 1 = cc in omega arith)
-  bad-here p ps n (closes b) e h = absurd (let z : _≡_ {A = ℕ} 0 1 = cc in omega arith)
-  bad-here p ps n commas e h = absurd (let z : _≡_ {A = ℕ} 0 1 = cc in omega arith)
-  bad-here p ps n (bars k i) e h = absurd (let z : _≡_ {A = ℕ} 0 1 = cc in omega arith)
-  bad-here p ps n plain e h = absurd (let z : _≡_ {A = ℕ} 0 1 = cc in omega arith)
 
   accepted-none : (p : Pending) (ps : List Pending) (w : List ℕ) → faultOf (view p) ms ps ≡ none → view p ≡ calls w → Accepted ms w ps
   accepted-none p ps w h e = accepted-good w ps (good-of w ps (ap (λ (v : View). faultOf v ms ps) (sym e) ∙ h))
@@ -198,7 +177,7 @@ module _ (ms : List Macro) where
     where
       go : (f : Option ℕ) → faultOf (view p) ms ps ≡ f → orNext f (textFault ms ps) ≡ some n → (textFault ms ps ≡ some n → FirstBad ps n) → FirstBad (p ∷ ps) n
       go none e q ih = bad-later p ps n e (ih q)
-      go (some m) e q ih = bad-here p ps n (view p) refl (e ∙ q)
+      go (some m) e q ih = bad-here p ps n (e ∙ q)
 
   fault-bad : (before after : List Pending) (p : Pending) (w : List ℕ) (n : ℕ) → view p ≡ calls w → usageFault ms w after ≡ some n
       → ((a b : List Pending) (q : Pending) (u : List ℕ) → before ≡ a ++ (q ∷ b) → view q ≡ calls u → Accepted ms u (b ++ (p ∷ after)))

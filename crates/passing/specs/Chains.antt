@@ -8,9 +8,8 @@ use Rattle.definition.specs.Definitions.{Macro}
 use Rattle.store.specs.Stores.{macroAt, find}
 use Rattle.store.specs.declared.Found.{Found}
 use Rattle.store.specs.declared.Found.the-variants.{At, Missing}
-use Rattle.pending.specs.Pending.{Pending, view}
+use Rattle.pending.specs.Pending.{Pending, isCall, view}
 use Rattle.replace.specs.Replacing.{Listed, barred, listed, listFor}
-use Rattle.expand.specs.Expanding.{isCall}
 use Rattle.passing.specs.Passing.{formalsOf, uses}
 
 unfoldable pub longest : (ℕ → ℕ) → List ℕ → ℕ

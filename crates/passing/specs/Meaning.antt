@@ -3,7 +3,7 @@
 use Prim.Native.Nat.{ℕ, _<_, _≤_}
 use mathlib.Core.Path.{_≡_}
 use mathlib.Core.Option.{none, some}
-use mathlib.Core.List.{List, [], _∷_, _++_}
+use mathlib.Core.List.{List, [], _∷_, _++_, List·Memᴰ as In}
 use lib.ListN.{length}
 use Rattle.definition.specs.Definitions.{Macro}
 use Rattle.store.specs.Stores.{macroAt, find}
@@ -23,10 +23,6 @@ pub record Accepted (ms : List Macro) (w : List ℕ) (ps : List Pending) : Type 
 -- "each usage written in its texts"
 pub record AllAccepted (ms : List Macro) (ps : List Pending) : Type 0 where
   pub each : (before after : List Pending) (p : Pending) (w : List ℕ) → ps ≡ before ++ (p ∷ after) → view p ≡ calls w → Accepted ms w after
-
-pub data In (x : ℕ) : List ℕ → Type 0 where
-  first : {y : ℕ} {l : List ℕ} → x ≡ y → In x (y ∷ l)
-  later : {y : ℕ} {l : List ℕ} → In x l → In x (y ∷ l)
 
 -- a chain from macro i: the macros behind it, "each written in the text of the one before"
 pub data Walk (ms : List Macro) : ℕ → List ℕ → Type 0 where

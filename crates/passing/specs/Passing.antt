@@ -11,7 +11,7 @@ use Rattle.definition.specs.Definitions.{Parameter, Macro, macro}
 use Rattle.store.specs.Stores.{macroText, macroAt, find}
 use Rattle.store.specs.declared.Found.{Found}
 use Rattle.store.specs.declared.Found.the-variants.{At, Missing}
-use Rattle.pending.specs.Pending.{Pending, textTokens, View, blanks, calls, names, opens, closes, commas, bars, plain, view}
+use Rattle.pending.specs.Pending.{Pending, textTokens, View, onUsage, view}
 use Rattle.replace.specs.Replacing.{Listed, barred, listed, listFor}
 
 -- the first of two faults
@@ -36,14 +36,7 @@ unfoldable pub usageFault : List Macro → List ℕ → List Pending → Option 
 usageFault ms w ps = foundFault (find w ms) ms ps
 
 abbrev pub faultOf : View → List Macro → List Pending → Option ℕ
-faultOf blanks ms ps = none
-faultOf (calls w) ms ps = usageFault ms w ps
-faultOf (names w) ms ps = none
-faultOf (opens c) ms ps = none
-faultOf (closes b) ms ps = none
-faultOf commas ms ps = none
-faultOf (bars n i) ms ps = none
-faultOf plain ms ps = none
+faultOf v ms ps = onUsage v none (λ w. usageFault ms w ps)
 
 -- "for its first bad usage", each with the list that follows it in the whole text
 unfoldable pub textFault : List Macro → List Pending → Option ℕ
@@ -55,14 +48,7 @@ usedBy (Missing i) r = r
 usedBy (At i) r = i ∷ r
 
 abbrev pub usesOf : View → List Macro → List ℕ → List ℕ
-usesOf blanks ms r = r
-usesOf (calls w) ms r = usedBy (find w ms) r
-usesOf (names w) ms r = r
-usesOf (opens c) ms r = r
-usesOf (closes b) ms r = r
-usesOf commas ms r = r
-usesOf (bars n i) ms r = r
-usesOf plain ms r = r
+usesOf v ms r = onUsage v r (λ w. usedBy (find w ms) r)
 
 -- "those that usages in its text name, also in lists", by their numbers
 unfoldable pub usesIn : List Macro → List Pending → List ℕ

@@ -9,9 +9,9 @@ use lib.Dec.{eqb}
 use borrow.Author.Tests.{ne-eqb}
 use lib.ListN.{getD}
 use Rattle.lex.specs.Tokens.{Name, Escaped, Quote, Grave, Byte, String}
+use Rattle.lex.proofs.Tests.{true-false}
 use Rattle.pending.specs.declared.Pend.{Pend}
-use Rattle.pending.specs.Pending.{Pending, View, isBlank, byteView, graveView, kindView, view}
-use Rattle.pending.specs.Pending.View.{blanks, names, bars, plain}
+use Rattle.pending.specs.Pending.{Pending, View, blanks, calls, names, opens, closes, commas, bars, plain, onUsage, onName, isCall, isBarred, isBlank, byteView, graveView, kindView, view}
 use Rattle.pending.specs.References.{rawOf, pendingBy}
 
 pub view-clear : (p : Pending) → p .bar ≡ 0 → view p ≡ kindView (p .kind) (getD (p .bytes) 0 0) (p .name)
@@ -43,3 +43,47 @@ kind-view-first k x y w h =
     go : (t : Bool) → eqb k Byte ≡ t → cond t (byteView x) plain ≡ cond t (byteView y) plain
     go true e = ap (λ (z : ℕ). byteView z) (h e)
     go false e = refl
+
+-- ---- a usage, or another token
+
+-- what holds of two answers for a usage, and of two for any other token, holds of those that a token gets
+pub by-usages : {A B : Type 0} (P : A → B → Type 0) (v : View) {a : A} {f : List ℕ → A} {b : B} {g : List ℕ → B} → (isCall v ≡ false → P a b)
+    → ((w : List ℕ) → v ≡ calls w → P (f w) (g w)) → P (onUsage v a f) (onUsage v b g)
+by-usages P blanks h k = h refl
+by-usages P (calls w) h k = k w refl
+by-usages P (names w) h k = h refl
+by-usages P (opens c) h k = h refl
+by-usages P (closes b) h k = h refl
+by-usages P commas h k = h refl
+by-usages P (bars n i) h k = h refl
+by-usages P plain h k = h refl
+
+pub by-usage : {A : Type 0} (P : A → Type 0) (v : View) {a : A} {f : List ℕ → A} → (isCall v ≡ false → P a)
+    → ((w : List ℕ) → v ≡ calls w → P (f w)) → P (onUsage v a f)
+by-usage {A} P v {a} {f} h k = by-usages (λ (x y : A). P x) v {a = a} {f = f} {b = a} {g = f} h k
+
+pub not-usage : {A : Type 0} (v : View) (a : A) (f : List ℕ → A) → isCall v ≡ false → onUsage v a f ≡ a
+not-usage {A} v a f e = by-usage (λ (x : A). x ≡ a) v (λ q. refl) (λ w q. true-false (isCall v) (ap isCall q) e)
+
+-- ---- a name, or another token
+
+pub by-name : {A : Type 0} (P : A → Type 0) (v : View) {a : A} {f : List ℕ → A} → P a → ((w : List ℕ) → v ≡ names w → P (f w)) → P (onName v a f)
+by-name P blanks h k = h
+by-name P (calls w) h k = h
+by-name P (names w) h k = k w refl
+by-name P (opens c) h k = h
+by-name P (closes b) h k = h
+by-name P commas h k = h
+by-name P (bars n i) h k = h
+by-name P plain h k = h
+
+-- ---- a token that is barred
+
+-- what 2 to 6 bar is refused in a list
+pub free-bar : (p : Pending) → isBarred (view p) ≡ false → eqb (p .bar) 0 ≡ true
+unfolding view
+free-bar p h = go (eqb (p .bar) 0) refl
+  where
+    go : (b : Bool) → eqb (p .bar) 0 ≡ b → b ≡ true
+    go true e = refl
+    go false e = true-false (isBarred (view p)) (rw e) h

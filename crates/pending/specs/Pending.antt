@@ -1,7 +1,7 @@
 -- Pending tokens (01, "Replacing"): a token with its set of macros, and what replacing asks of it.
 -- Assumes nothing.
 use Prim.Native.Nat.{ℕ}
-use mathlib.Core.Bool.{Bool, cond, _||_}
+use mathlib.Core.Bool.{Bool, true, false, cond, _||_}
 use mathlib.Core.List.{List, [], _∷_}
 use lib.Dec.{eqb}
 use lib.ListN.{getD}
@@ -51,6 +51,43 @@ pub data View : Type 0 where
   commas : View
   bars : ℕ → ℕ → View  -- refused in a list: 14, or 2 to 6 with the token's place
   plain : View
+
+-- what f gives for the name of a usage, `other` for any other token
+abbrev pub onUsage : {A : Type 0} → View → A → (List ℕ → A) → A
+onUsage blanks other f = other
+onUsage (calls w) other f = f w
+onUsage (names w) other f = other
+onUsage (opens c) other f = other
+onUsage (closes b) other f = other
+onUsage commas other f = other
+onUsage (bars n i) other f = other
+onUsage plain other f = other
+
+-- .. for a plain or escaped name
+abbrev pub onName : {A : Type 0} → View → A → (List ℕ → A) → A
+onName blanks other f = other
+onName (calls w) other f = other
+onName (names w) other f = f w
+onName (opens c) other f = other
+onName (closes b) other f = other
+onName commas other f = other
+onName (bars n i) other f = other
+onName plain other f = other
+
+-- whether a token is a usage
+abbrev pub isCall : View → Bool
+isCall v = onUsage v false (λ w. true)
+
+-- whether a token is refused in a list
+abbrev pub isBarred : View → Bool
+isBarred blanks = false
+isBarred (calls w) = false
+isBarred (names w) = false
+isBarred (opens c) = false
+isBarred (closes b) = false
+isBarred commas = false
+isBarred (bars n i) = true
+isBarred plain = false
 
 abbrev pub byteView : ℕ → View
 byteView b =

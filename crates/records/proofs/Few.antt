@@ -18,7 +18,7 @@ use Rattle.turns.specs.States.{Context, Frame, State, Turn, more, stop, finishe
 use Rattle.turns.specs.Acts.{Act, refuses, leaves, copies, skips, hides, branches, defines, undefines, includes, keeps, spells, expands, actAt}
 use Rattle.turns.specs.Performing.{perform}
 use Rattle.turns.specs.Turns.{tokenTurn, hereAt, frameTurn, turnAt}
-use Rattle.turns.specs.Runs.{Run, onto, follow, runFor, measure, runFrom, contextOf, startOf, outcomeOf, notTaken, flattened}
+use Rattle.turns.specs.Runs.{Run, onto, follow, runFor, measure, runFrom, contextOf, startOf, outcomeOf, notTaken, ranOver, flattened}
 use Rattle.turns.proofs.Acts.{act-same}
 use Rattle.records.specs.Rows.{few}
 
@@ -133,5 +133,5 @@ module _ (h : HandOver) (t m n b : ℕ) where
   pub flattened-few : flattened h (rooms (few n)) ≡ flattened h (rooms n)
   unfolding flattened
   flattened-few =
-      ap (λ (c : Bool). cond c (outcomeOf (contextOf h (rooms (few n))) (runFrom (contextOf h (rooms (few n))) (startOf h (rooms (few n))))) notTaken) sound-few
+      ap (λ (c : Bool). cond c (ranOver h (rooms (few n))) notTaken) sound-few
       ∙ ap (λ (r : Run). cond (isSound h (rooms n)) (outcomeOf (contextOf h (rooms n)) r) notTaken) from-few

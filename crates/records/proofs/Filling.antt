@@ -17,9 +17,9 @@ use Rattle.form.specs.Forms.{formOf}
 use Rattle.store.proofs.Entries.{length-rows, length-padded}
 use Rattle.handover.specs.Sizes.{HandOver, Rooms, isSound}
 use Rattle.turns.specs.Runs.{Outcome, notTaken, flattened}
-use Rattle.flatten.specs.Flattening.{Lent, lent, roomsOf, over, answerOf, Flattens}
+use Rattle.turns.proofs.Refused.{one-exactly}
+use Rattle.flatten.specs.Flattening.{Lent, lent, roomsOf, answerOf, Leaves, HoldsMacros, Flattens}
 use Rattle.flatten.specs.declared.Flattened.{Flattened}
-use Rattle.claims.proofs.Refused.{one-exactly}
 use Rattle.records.specs.declared.Record.{Record}
 use Rattle.records.specs.declared.Table.{Table}
 use Rattle.records.specs.declared.Kept.{Kept}
@@ -92,10 +92,10 @@ macros-in h l l′ a f = go (isSound h (roomsOf l)) refl
     go true e =
         let k = f .macros-are e in
         let ms = flattened h (roomsOf l) .macros in
-        omega (arith, ap (λ (b : Flattened). b .macros) (f .answer), ap length (k .rows), length-padded blankRecord (length (l′ .records)) (rowsFrom 0 ms), length-rows 0 ms)
+        omega (arith, ap (λ (b : Flattened). b .macros) (f .leaves .answer), ap length (k .rows), length-padded blankRecord (length (l′ .records)) (rowsFrom 0 ms), length-rows 0 ms)
     go false e =
         let z : flattened h (roomsOf l) ≡ notTaken = rw e refl in
-        omega (arith, ap (λ (b : Flattened). b .macros) (f .answer), ap (λ (o : Outcome). length (o .macros)) z)
+        omega (arith, ap (λ (b : Flattened). b .macros) (f .leaves .answer), ap (λ (o : Outcome). length (o .macros)) z)
 
 -- blank records filled from rows
 filled-rows : (n q : ℕ) (rows R : List (List ℕ)) → q ≤ n → q ≤ 256 → q ≤ length rows → take q rows ≡ R → map (λ v. rowOf (ofRow v)) R ≡ R
@@ -178,7 +178,7 @@ module _ (h : HandOver) (ys : List Record) (t m b t′ m′ b′ : List ℕ) (r 
   unfolding flattened filled cleared
   not-taken e =
       let z : flattened h inner ≡ notTaken = rw e refl in
-      let w : a ≡ answerOf notTaken = k .flattens .answer ∙ ap answerOf z in
+      let w : a ≡ answerOf notTaken = k .flattens .leaves .answer ∙ ap answerOf z in
       let c : r .clears ≡ 0 = k .clears-are ∙ ap (λ (y : Flattened). cond (eqb (y .number) 1) 0 n) w in
       let l : r .table .length ≡ 0 = length-is ∙ ap (λ (y : Flattened). y .macros) w in
       rw (c, l) refl
@@ -194,12 +194,12 @@ module _ (h : HandOver) (ys : List Record) (t m b t′ m′ b′ : List ℕ) (r 
     holds = k .flattens .macros-are e
 
     q-is : q ≡ length (rowsFrom 0 ms)
-    q-is = ap (λ (y : Flattened). y .macros) (k .flattens .answer) ∙ sym (length-rows 0 ms)
+    q-is = ap (λ (y : Flattened). y .macros) (k .flattens .leaves .answer) ∙ sym (length-rows 0 ms)
 
     not-one : eqb (a .number) 1 ≡ false
     not-one =
         ne-eqb (a .number) 1
-        (λ p. true-false (isSound h inner) e (one-exactly h inner (sym (ap (λ (y : Flattened). y .number) (k .flattens .answer)) ∙ p)))
+        (λ p. true-false (isSound h inner) e (one-exactly h inner (sym (ap (λ (y : Flattened). y .number) (k .flattens .leaves .answer)) ∙ p)))
 
     clears-all : cleared ys (r .clears) ≡ replicate n noRecord
     clears-all =
@@ -238,11 +238,9 @@ module _ (h : HandOver) (ys : List Record) (t m b t′ m′ b′ : List ℕ) (r 
   left-flattens : Flattens h (lent t m (rowsOf ys) b) (lent t′ m′ (rowsOf left) b′) a
   left-flattens =
       record {
-        answer = k .flattens .answer ∙ ap answerOf same-outcome;
-        text-is = k .flattens .text-is ∙ ap (λ (o : Outcome). over (o .text) t) same-outcome;
-        map-is = k .flattens .map-is ∙ ap (λ (o : Outcome). over (o .map) m) same-outcome;
+        leaves = subst (λ (o : Outcome). Leaves o t t′ m m′ a) same-outcome (k .flattens .leaves);
         untouched = λ u. (ap rowsOf (not-taken (same-sound ∙ u)), k .flattens .untouched (same-sound ∙ u) .1);
-        macros-are = λ u. subst (λ (o : Outcome). Holds (o .macros) b′ (rowsOf left) (length (o .macros))) same-outcome (left-holds (same-sound ∙ u));
+        macros-are = λ u. subst (λ (o : Outcome). HoldsMacros o (lent t′ m′ (rowsOf left) b′)) same-outcome (left-holds (same-sound ∙ u));
       }
 
   pub flattens-back : (zs : List Record) → zs ≡ left → Flattens h (lent t m (rowsOf ys) b) (lent t′ m′ (rowsOf zs) b′) a

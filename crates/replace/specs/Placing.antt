@@ -45,13 +45,6 @@ pub record UsageIn (b : List ℕ) (q : Record) (f : ℕ → List Pending) (last 
   pub ranged : Ranged f last ranges arguments
   pub unplaced : Unplaced ranges given
 
--- the numbers of a record are small
-pub record Small (q : Record) : Type 0 where
-  pub start-small : q .start < 4294967296
-  pub name-small : q .name < 4294967296
-  pub text-small : q .text < 4294967296
-  pub size-small : q .size < 4294967296
-
 -- the reference of a token of the part of the macro bytes that starts at `base`
 abbrev pub storedRef : ℕ → Token → MacroSet → Pend
 storedRef base t set =

@@ -12,7 +12,7 @@ use Rattle.sets.specs.Sets.{elem, insertAsc}
 use Rattle.store.specs.Stores.{macroAt, find}
 use Rattle.store.specs.declared.Found.{Found}
 use Rattle.store.specs.declared.Found.the-variants.{At, Missing}
-use Rattle.pending.specs.Pending.{Pending, textTokens, View, blanks, calls, names, opens, closes, commas, bars, plain, view}
+use Rattle.pending.specs.Pending.{Pending, textTokens, View, view, onName}
 use Rattle.arguments.specs.Arguments.{Args, bad, args, seek}
 use Rattle.replace.specs.Tidying.{tidyAll}
 
@@ -38,14 +38,7 @@ instead (some a) p = a
 
 -- "Plain and escaped names equal to a formal are replaced, none inside strings"
 abbrev pub imageOf : View → Pending → (List ℕ → Option (List Pending)) → List Pending
-imageOf blanks p f = p ∷ []
-imageOf (calls w) p f = p ∷ []
-imageOf (names w) p f = instead (f w) p
-imageOf (opens c) p f = p ∷ []
-imageOf (closes b) p f = p ∷ []
-imageOf commas p f = p ∷ []
-imageOf (bars n i) p f = p ∷ []
-imageOf plain p f = p ∷ []
+imageOf v p f = onName v (p ∷ []) (λ w. instead (f w) p)
 
 -- of one token of the text, with these arguments
 abbrev pub imageIn : List ℕ → List Parameter → List (List Pending) → Pending → List Pending

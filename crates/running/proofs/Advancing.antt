@@ -6,7 +6,7 @@ use mathlib.Core.List.{List, [], _∷_}
 use mathlib.Core.Path.{_≡_, refl, sym, ap, subst, subst⁻¹, _∙_}
 use native.Mathlib.Nat.{add-zero, add-assoc, max-zero}
 use native.Mathlib.Omega.{arith}
-use lib.ListN.{length, length-append}
+use lib.ListN.{length, length-append, getD}
 use Rattle.definition.specs.Definitions.{Macro}
 use Rattle.store.specs.Buffers.{Holds}
 use Rattle.writing.specs.Written.{Written, textOf, mapOf, freshAfter}
@@ -14,7 +14,8 @@ use Rattle.writing.specs.Buffers.{roomOf, Puts}
 use Rattle.writing.specs.declared.Spot.{Spot}
 use Rattle.writing.proofs.Laws.{puts-none, text-length, text-append, fresh-append, map-append, sets-append, puts-text, puts-map}
 use Rattle.blocks.specs.Blocks.{Conditional}
-use Rattle.blocks.specs.Stacks.{openIn}
+use Rattle.blocks.specs.Stacks.{openIn, BlocksIn}
+use Rattle.blocks.proofs.Opening.{open-top}
 use Rattle.blocks.specs.declared.Blocks.{Blocks}
 use Rattle.handover.specs.Entries.{allEntries}
 use Rattle.copying.specs.declared.Cursor.{Cursor}
@@ -26,12 +27,13 @@ use Rattle.turns.proofs.Progress.{turn-falls}
 use Rattle.turns.proofs.Running.{run-more, run-stop, run-finished, onto-nothing}
 use Rattle.turns.proofs.Leading.{leads-run, leads-falls}
 use Rattle.reading.specs.Reading.{ReadsTo}
-use Rattle.running.specs.declared.stage.Stage.{Stage}
-use Rattle.running.specs.declared.stage.Step.{Step}
-use Rattle.running.specs.declared.stage.Step.the-variants as step
-use Rattle.running.specs.Standing.{Bufs, bufs, outerFrames, openFrames, stateOf, hereOf, lastStep, reachedAt, Ok, Fixed, isEnd, SteppedBy, Going}
-use Rattle.running.proofs.Going.{open-first}
-use Rattle.running.specs.Ending.{finish, ended, Advances, Finishes, AdvancedBy}
+use Rattle.steps.specs.declared.stage.Stage.{Stage}
+use Rattle.steps.specs.declared.stage.Step.{Step}
+use Rattle.steps.specs.declared.stage.Step.the-variants as step
+use Rattle.steps.specs.Standing.{Bufs, bufs, outerFrames, openFrames, stateOf, hereOf, endedAt, reachedAt, Ok, Fixed, isEnd, SteppedBy}
+use Rattle.dispatch.specs.Going.{Going}
+use Rattle.steps.proofs.Going.{open-first}
+use Rattle.running.specs.Ending.{lastStep, finish, ended, Advances, Finishes, AdvancedBy, AdvancesBy}
 
 -- the measure is of the store and the table alone
 pub measure-same : (x y : Context) (fs : List Frame) → x .store ≡ y .store → x .table ≡ y .table → measure x fs ≡ measure y fs
@@ -200,15 +202,30 @@ advance-last x limit B ms z n f p d e g h =
           (sym (add-zero (z .count))) (sym (max-zero (z .deepest)));
     }
 
-pub advance-ended : {store : List ℕ} {table : List (List ℕ)} {B : Bufs} {z : Stage} (limit : ℕ) (t : Step) → Going store table B z → z .depth ≡ 0
-    → t ≡ lastStep z (openIn (B .conds) (z .blocks .open)) → (x : Context) (ms : List Macro) → Holds ms (B .bytes) (B .records) (z .macros)
-    → AdvancedBy t x limit store table B B ms z
-advance-ended {store} {table} {B} {z} limit t g d e x ms h =
+pub advance-ended : {store : List ℕ} {table : List (List ℕ)} {set : ℕ} {B : Bufs} {z : Stage} (limit : ℕ) (t : Step) → Going store table B z → z .depth ≡ 0
+    → t ≡ lastStep z (openIn (B .conds) (z .blocks .open)) → AdvancesBy t set limit store table B B z
+advance-ended {store} {table} {set} {B} {z} limit t g d e x ms f h =
     subst⁻¹ (λ (v : Step). AdvancedBy v x limit store table B B ms z) e (go (openIn (B .conds) (z .blocks .open)) refl)
   where
     go : (cs : List Conditional) → openIn (B .conds) (z .blocks .open) ≡ cs → AdvancedBy (lastStep z cs) x limit store table B B ms z
     go [] q = advance-last x limit B ms z 0 0 0 d (ap lastTurn q) (λ i. (refl, refl)) h
     go (k ∷ cs) q = advance-last x limit B ms z 8 (k .file) (k .byte) d (ap lastTurn q) (λ i. absurd (omega (arith, i))) h
+
+pub run-ended : (w : List (List ℕ)) (z : Stage) → z .blocks .open ≡ 0 → endedAt z 0 0 0 ≡ lastStep z (openIn w (z .blocks .open))
+unfolding openIn
+run-ended w z e = rw e
+
+last-open : (w : List (List ℕ)) (z : Stage) (n : ℕ) (v : List ℕ) → (n ≡ 0 → ⊥) → n ≤ length w → v ≡ getD w (n - 1) []
+    → endedAt z 8 (getD v 0 0) (getD v 1 0) ≡ lastStep z (openIn w n)
+last-open w z zero v a l e = absurd (a refl)
+last-open w z (suc n) v a l e =
+    let k : suc n - 1 ≡ n = omega arith in
+    let q : v ≡ getD w n [] = e ∙ ap (λ (m : ℕ). getD w m []) k in
+    rw (open-top w n (omega arith), q)
+
+pub run-open : (w : List (List ℕ)) (z : Stage) (v : List ℕ) → (z .blocks .open ≡ 0 → ⊥) → BlocksIn w (z .blocks) → v ≡ getD w (z .blocks .open - 1) []
+    → endedAt z 8 (getD v 0 0) (getD v 1 0) ≡ lastStep z (openIn w (z .blocks .open))
+run-open w z v a b e = last-open w z (z .blocks .open) v a (omega (arith, b .few, b .lent)) e
 
 -- ---- the invariant of the run
 
@@ -268,10 +285,10 @@ abbrev pub weightOf : List ℕ → List (List ℕ) → List (List ℕ) → Stage
 weightOf store table frames z = measure (only store table) (openFrames frames (z .depth) (z .file) (z .cursor))
 
 module _ {store : List ℕ} {table : List (List ℕ)} {set limit : ℕ} {B₀ B : Bufs} {z₀ z : Stage} (h : Runs store table set limit B₀ B z₀ z) (t : Step) (B′ : Bufs) where
-  module _ (a : (x : Context) (ms : List Macro) → Fixed x store table set B → Holds ms (B .bytes) (B .records) (z .macros) → AdvancedBy t x limit store table B B′ ms z) where
+  module _ (a : AdvancesBy t set limit store table B B′ z) where
     module _ {y : Stage} (e : t ≡ step.On y) where
-      advances : (x : Context) (ms : List Macro) → Fixed x store table set B → Holds ms (B .bytes) (B .records) (z .macros) → Advances x limit store table B B′ ms z y
-      advances x ms f k = subst (λ (v : Step). AdvancedBy v x limit store table B B′ ms z) e (a x ms f k)
+      advances : AdvancesBy (step.On y) set limit store table B B′ z
+      advances = subst (λ (v : Step). AdvancesBy v set limit store table B B′ z) e a
 
       abbrev now-on : Context
       now-on = record { store = store; table = table; set = set; records = length (B .records); bytes = length (B .bytes) }

@@ -8,7 +8,6 @@ use native.Mathlib.Omega.{arith}
 use lib.ListN.{length}
 use Rattle.lex.specs.declared.Token.{Token}
 use Rattle.definition.specs.Definitions.{Macro}
-use Rattle.settings.specs.declared.Settings.{Settings}
 use Rattle.store.specs.Buffers.{Holds, Stored}
 use Rattle.writing.specs.declared.Spot.{Spot}
 use Rattle.places.specs.Places.{placeOf}
@@ -17,16 +16,17 @@ use Rattle.blocks.specs.declared.Blocks.{Blocks}
 use Rattle.handover.specs.Entries.{allEntries, bodyOf}
 use Rattle.copying.specs.Copying.{Copyable}
 use Rattle.copying.specs.declared.Cursor.{Cursor}
-use Rattle.turns.specs.States.{Context, Frame}
+use Rattle.turns.specs.States.{Context}
 use Rattle.turns.specs.Acts.{actAt}
 use Rattle.turns.specs.Turns.{tokenTurn}
 use Rattle.reading.specs.Reading.{Stays, Halts, ReachedBy, StaysBy}
 use Rattle.reading.specs.declared.Reached.{Reached}
 use Rattle.reading.specs.declared.Reached.the-variants as reached
-use Rattle.running.specs.declared.stage.Stage.{Stage}
-use Rattle.running.specs.declared.stage.Step.{Step}
-use Rattle.running.specs.Standing.{Bufs, bufs, outerFrames, hereOf, endedAt, reachedAt, Ok, Fixed, At, Performed, Going, GoingIn}
-use Rattle.running.specs.Ending.{AdvancedBy}
+use Rattle.steps.specs.declared.stage.Stage.{Stage}
+use Rattle.steps.specs.declared.stage.Step.{Step}
+use Rattle.steps.specs.Standing.{Bufs, bufs, outerFrames, hereOf, endedAt, reachedAt, Ok, Fixed, At, Performs}
+use Rattle.dispatch.specs.Going.{Going, GoingIn}
+use Rattle.running.specs.Ending.{ReadFrom, AdvancedBy, AdvancesBy}
 use Rattle.running.proofs.Advancing.{Led, turn-here, stepped, read-led, advance-refused, fixed-on}
 use Rattle.turns.proofs.Unfinished.{token-unfinished}
 
@@ -35,11 +35,7 @@ pub record Reaches (store : List ℕ) (table : List (List ℕ)) (B : Bufs) (z : 
   pub going : Going store table B z
   pub some-open : z .depth ≡ 0 → ⊥
   pub body-is : s ≡ bodyOf store table (z .file)
-  pub stays : StaysBy r s (z .file) conds′ text′ map′
-  pub reads :
-      (x : Context) (fs : List Frame) (ms : List Macro) (st : Settings) (left : ℕ) → bodyOf (x .store) (x .table) (z .file) ≡ s
-      → Holds ms (B .bytes) (B .records) (z .macros)
-      → ReachedBy r s (z .file) x fs ms st left (B .conds) conds′ (B .text) text′ (B .map) map′ (z .cursor) (z .spot) (z .blocks)
+  pub reads : ReadFrom r s z (B .bytes) (B .records) (B .conds) conds′ (B .text) text′ (B .map) map′
 
 -- what reading is lent
 pub read-lent : {store : List ℕ} {table : List (List ℕ)} {B : Bufs} {z : Stage} {s : List ℕ} → Going store table B z → s ≡ bodyOf store table (z .file)
@@ -67,11 +63,11 @@ module _ {store : List ℕ} {table : List (List ℕ)} {B : Bufs} {z : Stage} {s 
       → ReachedBy r₁ s (z .file) x (outerFrames (B .frames) (z .depth - 1)) ms (z .settings) (limit - z .count) (B .conds) conds′ (B .text) text′ (B .map) map′ (z .cursor) (z .spot) (z .blocks)
   came e x limit ms q i =
       subst (λ (v : Reached). ReachedBy v s (z .file) x (outerFrames (B .frames) (z .depth - 1)) ms (z .settings) (limit - z .count) (B .conds) conds′ (B .text) text′ (B .map) map′ (z .cursor) (z .spot) (z .blocks))
-      e (R .reads x (outerFrames (B .frames) (z .depth - 1)) ms (z .settings) (limit - z .count) q i)
+      e (R .reads .1 x (outerFrames (B .frames) (z .depth - 1)) ms (z .settings) (limit - z .count) q i)
 
   module _ {c : Cursor} {y : Spot} {k : Blocks} {t : Token} {d : ℕ} (e : r ≡ reached.Upto c y k t d) {z₁ : Stage} (there : z₁ ≡ reachedAt z c y k) where
     stood : Stays s (z .file) conds′ text′ map′ c y k
-    stood = subst (λ (v : Reached). StaysBy v s (z .file) conds′ text′ map′) e (R .stays)
+    stood = subst (λ (v : Reached). StaysBy v s (z .file) conds′ text′ map′) e (R .reads .0)
 
     stage-ok : Ok store table B₁ (reachedAt z c y k)
     stage-ok =
@@ -110,11 +106,8 @@ module _ {store : List ℕ} {table : List (List ℕ)} {B : Bufs} {z : Stage} {s 
         (record { open-file = file-open; body-is = sym (R .body-is); token-is = sym (halted .token-is) })
 
     pub advance-on : (set limit : ℕ) (tx mp bs : List ℕ) (rs fr : List (List ℕ)) (v : Step) → length bs ≡ length (B .bytes)
-        → ((x : Context) (ms : List Macro) (cd : List (List ℕ)) → Fixed x store table set (bufs text′ map′ (B .bytes) (B .records) (B .frames) cd)
-        → At store table s t z₁ → Ok store table (bufs text′ map′ (B .bytes) (B .records) (B .frames) cd) z₁ → Holds ms (B .bytes) (B .records) (z₁ .macros)
-        → Performed v x store table limit (bufs text′ map′ (B .bytes) (B .records) (B .frames) cd) (bufs tx mp bs rs fr cd) ms z₁ (λ h. actAt h))
-        → (x : Context) (ms : List Macro) → Fixed x store table set B → Holds ms (B .bytes) (B .records) (z .macros)
-        → AdvancedBy v x limit store table B (bufs tx mp bs rs fr conds′) ms z
+        → ((cd : List (List ℕ)) → Performs v store table set limit s t (bufs text′ map′ (B .bytes) (B .records) (B .frames) cd) (bufs tx mp bs rs fr cd) z₁ (λ h. actAt h))
+        → AdvancesBy v set limit store table B (bufs tx mp bs rs fr conds′) z
     advance-on set limit tx mp bs rs fr v b w x ms f i =
         let a : allEntries (x .store) (x .table) ≡ true = rw (f .store-is, f .table-is) (f .entries) in
         let l : Led x limit B B₁ ms z z₁ =
@@ -124,12 +117,11 @@ module _ {store : List ℕ} {table : List (List ℕ)} {B : Bufs} {z : Stage} {s 
         let n : Holds ms (B .bytes) (B .records) (z₁ .macros) = subst⁻¹ (λ (j : Stage). Holds ms (B .bytes) (B .records) (j .macros)) there i in
         let h = hereOf x limit B₁ ms z₁ in
         stepped x limit store table B B₁ (bufs tx mp bs rs fr conds′) ms z z₁ v (tokenTurn h) a (R .going) b l (turn-here x limit B₁ ms z₁ o) (token-unfinished h)
-        (w x ms conds′ (fixed-on f refl refl) reached-here reached-ok n)
+        (w conds′ reached-here x ms (fixed-on f refl refl) reached-ok n)
 
   module _ {c : Cursor} {y : Spot} {k : Blocks} {n p : ℕ} (e : r ≡ reached.Refused c y k n p) {z₁ : Stage} (there : z₁ ≡ reachedAt z c y k) where
     pub advance-stopped : (set limit : ℕ) (v : Step) → v ≡ endedAt z₁ n (z₁ .file) p
-        → (x : Context) (ms : List Macro) → Fixed x store table set B → Holds ms (B .bytes) (B .records) (z .macros)
-        → AdvancedBy v x limit store table B B₁ ms z
+        → AdvancesBy v set limit store table B B₁ z
     advance-stopped set limit v q x ms f i =
         let a : allEntries (x .store) (x .table) ≡ true = rw (f .store-is, f .table-is) (f .entries) in
         let m = came e x limit ms (body-in f) i in

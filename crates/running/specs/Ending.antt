@@ -1,8 +1,8 @@
--- How a run ends from a stage on.
+-- How a run goes on and ends from a stage on.
 -- Assumes nothing.
 use Prim.Native.Nat.{ℕ, max, _+_, _<_}
 use mathlib.Core.Path.{_≡_}
-use mathlib.Core.List.{List}
+use mathlib.Core.List.{List, [], _∷_}
 use lib.Seq.{sets}
 use Rattle.definition.specs.Definitions.{Macro}
 use Rattle.store.specs.Buffers.{Holds}
@@ -10,12 +10,30 @@ use Rattle.settings.specs.declared.Settings.{Settings}
 use Rattle.writing.specs.Written.{textOf, mapOf}
 use Rattle.writing.specs.Buffers.{spotAfter}
 use Rattle.writing.specs.declared.Spot.{Spot}
-use Rattle.turns.specs.States.{Context}
+use Rattle.blocks.specs.Blocks.{Conditional}
+use Rattle.handover.specs.Entries.{bodyOf}
+use Rattle.turns.specs.States.{Context, Frame}
 use Rattle.turns.specs.Runs.{Run, measure, runFrom}
-use Rattle.running.specs.declared.stage.Stage.{Stage}
-use Rattle.running.specs.declared.stage.Step.{Step}
-use Rattle.running.specs.declared.stage.Step.the-variants as step
-use Rattle.running.specs.Standing.{Bufs, stateOf, Going}
+use Rattle.reading.specs.Reading.{ReachedBy, StaysBy}
+use Rattle.reading.specs.declared.Reached.{Reached}
+use Rattle.steps.specs.declared.stage.Stage.{Stage}
+use Rattle.steps.specs.declared.stage.Step.{Step}
+use Rattle.steps.specs.declared.stage.Step.the-variants as step
+use Rattle.steps.specs.Standing.{Bufs, endedAt, stateOf, Fixed}
+use Rattle.running.specs.declared.Last.{Last}
+use Rattle.dispatch.specs.Going.{Going}
+
+-- the last step of a run: 8 where a conditional is open
+abbrev pub lastStep : Stage → List Conditional → Step
+lastStep z [] = endedAt z 0 0 0
+lastStep z (c ∷ cs) = endedAt z 8 (c .file) (c .byte)
+
+-- reading from a stage, in the file s, came to r, in every context and with the macros that the buffers hold
+abbrev pub ReadFrom : Reached → List ℕ → Stage → List ℕ → List (List ℕ) → List (List ℕ) → List (List ℕ) → List ℕ → List ℕ → List ℕ → List ℕ → Type 0
+ReadFrom r s z bs rs cd cd′ tx tx′ mp mp′ =
+    StaysBy r s (z .file) cd′ tx′ mp′
+    × ((x : Context) (fs : List Frame) (ms : List Macro) (st : Settings) (left : ℕ) → bodyOf (x .store) (x .table) (z .file) ≡ s → Holds ms bs rs (z .macros)
+    → ReachedBy r s (z .file) x fs ms st left cd cd′ tx tx′ mp mp′ (z .cursor) (z .spot) (z .blocks))
 
 -- all that a run leaves, but for the macros' bytes and records
 pub record Final : Type 0 where
@@ -80,3 +98,14 @@ pub record Finishes (x : Context) (limit : ℕ) (B B′ : Bufs) (ms : List Macro
 abbrev pub AdvancedBy : Step → Context → ℕ → List ℕ → List (List ℕ) → Bufs → Bufs → List Macro → Stage → Type 0
 AdvancedBy (step.On z′) x limit store table B B′ ms z = Advances x limit store table B B′ ms z z′
 AdvancedBy (step.Ended z′ n f p) x limit store table B B′ ms z = Finishes x limit B B′ ms z z′ n f p
+
+-- .. in every context, with the macros that the buffers hold
+abbrev pub AdvancesBy : Step → ℕ → ℕ → List ℕ → List (List ℕ) → Bufs → Bufs → Stage → Type 0
+AdvancesBy r set limit store table B B′ z =
+    (x : Context) (ms : List Macro) → Fixed x store table set B → Holds ms (B .bytes) (B .records) (z .macros)
+    → AdvancedBy r x limit store table B B′ ms z
+
+abbrev pub FinishesBy : Last → ℕ → ℕ → List ℕ → List (List ℕ) → Bufs → Bufs → Stage → Type 0
+FinishesBy r set limit store table B B′ z =
+    (x : Context) (ms : List Macro) → Fixed x store table set B → Holds ms (B .bytes) (B .records) (z .macros)
+    → Finishes x limit B B′ ms z (r .stage) (r .number) (r .file) (r .byte)

@@ -1,33 +1,29 @@
 // The run over files (document 01, "Directives"), token by token to its end: text and map written, macros and directive state kept.
-mod defining;
-mod entering;
-mod putting;
-pub mod stage;
-mod tokens;
-
 ghost use mathlib.Core.Path.{_≡_};
-ghost use mathlib.Core.List.{List};
-ghost use Prim.Native.Nat.{ℕ, _≤_};
-ghost use Rattle.definition.specs.Definitions.{Macro};
-ghost use Rattle.store.specs.Buffers.{Holds, Stored};
-ghost use Rattle.settings.specs.declared.Settings.{Settings};
+ghost use Prim.Native.Nat.{_≤_};
+ghost use Rattle.store.specs.Buffers.{Stored};
 ghost use Rattle.places.specs.Places.{placeOf};
 ghost use Rattle.blocks.specs.Stacks.{openIn, BlocksIn};
-ghost use Rattle.handover.specs.Entries.{bodyOf};
 ghost use Rattle.copying.specs.Copying.{Copyable};
-ghost use Rattle.turns.specs.States.{Context, Frame};
-ghost use Rattle.reading.specs.Reading.{StaysBy, ReachedBy};
-ghost use Rattle.running.specs.Standing.{bufs, Fixed, lastStep, Works, Going};
-ghost use Rattle.running.specs.Ending.{AdvancedBy, Finishes};
+ghost use Rattle.steps.specs.Standing.{bufs};
+ghost use Rattle.dispatch.specs.Going.{Works, Going};
+ghost use Rattle.running.specs.Ending.{lastStep, ReadFrom, AdvancesBy, FinishesBy};
+use dispatch::special;
 use handover::body_at;
 use reading::Reached;
 use reading::read_on;
-use stage::Last;
-use stage::Stage;
-use stage::Step;
-use stage::reached;
-use stage::refuse;
-use tokens::special;
+use steps::stage::Stage;
+use steps::stage::Step;
+use steps::stage::reached;
+use steps::stage::refuse;
+
+// The last stage of a run, and the refusal, or 0, with file and byte.
+pub struct Last {
+    pub stage: Stage,
+    pub number: usize,
+    pub file: usize,
+    pub byte: usize,
+}
 
 // The end of the run: 8 where a conditional is open.
 fn end_run(conds: &[[usize; 6]], z: Stage) -> Step
@@ -54,7 +50,7 @@ fn read_from(
     z: Stage,
 ) -> Reached
     requires { ⌜ (z .file ≤ 63) × Copyable (now s) (placeOf (z .file) 0) (now text) (now map) (z .cursor) (z .spot) × BlocksIn (now conds) (z .blocks) × Stored (now bytes) (now records) (z .macros) ⌝ }
-    ensures { λ r. ⌜ StaysBy r (now (s .entry)) (z .file) (now (conds .exit)) (now (text .exit)) (now (map .exit)) × ((a : Context) (fs : List Frame) (ms : List Macro) (st : Settings) (left : ℕ) → bodyOf (a .store) (a .table) (z .file) ≡ now (s .entry) → Holds ms (now (bytes .entry)) (now (records .entry)) (z .macros) → ReachedBy r (now (s .entry)) (z .file) a fs ms st left (now (conds .entry)) (now (conds .exit)) (now (text .entry)) (now (text .exit)) (now (map .entry)) (now (map .exit)) (z .cursor) (z .spot) (z .blocks)) ⌝ }
+    ensures { λ r. ⌜ ReadFrom r (now (s .entry)) z (now (bytes .entry)) (now (records .entry)) (now (conds .entry)) (now (conds .exit)) (now (text .entry)) (now (text .exit)) (now (map .entry)) (now (map .exit)) ⌝ }
 {
     read_on(
         s,
@@ -95,7 +91,7 @@ fn advance(
     z: Stage,
 ) -> Step
     requires { ⌜ Going (now files) (now table) (bufs (now text) (now map) (now bytes) (now records) (now frames) (now conds)) z × Works (now list) (now out) (now ranges) (now stack) (now work) (now quoted) (now decimal) (now name) (now form) ⌝ }
-    ensures { λ r. ⌜ ((x : Context) (ms : List Macro) → Fixed x (now (files .entry)) (now (table .entry)) set (bufs (now (text .entry)) (now (map .entry)) (now (bytes .entry)) (now (records .entry)) (now (frames .entry)) (now (conds .entry))) → Holds ms (now (bytes .entry)) (now (records .entry)) (z .macros) → AdvancedBy r x limit (now (files .entry)) (now (table .entry)) (bufs (now (text .entry)) (now (map .entry)) (now (bytes .entry)) (now (records .entry)) (now (frames .entry)) (now (conds .entry))) (bufs (now (text .exit)) (now (map .exit)) (now (bytes .exit)) (now (records .exit)) (now (frames .exit)) (now (conds .exit))) ms z) ⌝ }
+    ensures { λ r. ⌜ AdvancesBy r set limit (now (files .entry)) (now (table .entry)) (bufs (now (text .entry)) (now (map .entry)) (now (bytes .entry)) (now (records .entry)) (now (frames .entry)) (now (conds .entry))) (bufs (now (text .exit)) (now (map .exit)) (now (bytes .exit)) (now (records .exit)) (now (frames .exit)) (now (conds .exit))) z ⌝ }
 {
     if z.depth == 0 {
         return end_run(conds, z);
@@ -155,7 +151,7 @@ pub fn run_on(
     start: Stage,
 ) -> Last
     requires { ⌜ Going (now files) (now table) (bufs (now text) (now map) (now bytes) (now records) (now frames) (now conds)) start × Works (now list) (now out) (now ranges) (now stack) (now work) (now quoted) (now decimal) (now name) (now form) ⌝ }
-    ensures { λ r. ⌜ ((x : Context) (ms : List Macro) → Fixed x (now (files .entry)) (now (table .entry)) set (bufs (now (text .entry)) (now (map .entry)) (now (bytes .entry)) (now (records .entry)) (now (frames .entry)) (now (conds .entry))) → Holds ms (now (bytes .entry)) (now (records .entry)) (start .macros) → Finishes x limit (bufs (now (text .entry)) (now (map .entry)) (now (bytes .entry)) (now (records .entry)) (now (frames .entry)) (now (conds .entry))) (bufs (now (text .exit)) (now (map .exit)) (now (bytes .exit)) (now (records .exit)) (now (frames .exit)) (now (conds .exit))) ms start (r .stage) (r .number) (r .file) (r .byte)) ⌝ }
+    ensures { λ r. ⌜ FinishesBy r set limit (now (files .entry)) (now (table .entry)) (bufs (now (text .entry)) (now (map .entry)) (now (bytes .entry)) (now (records .entry)) (now (frames .entry)) (now (conds .entry))) (bufs (now (text .exit)) (now (map .exit)) (now (bytes .exit)) (now (records .exit)) (now (frames .exit)) (now (conds .exit))) start ⌝ }
 {
     let mut z = start;
     loop {

@@ -1,6 +1,6 @@
 // The directive state (document 01, "Directives"): what the copied directives leave.
 ghost use mathlib.Core.Path.{_≡_};
-ghost use Rattle.settings.specs.Settings.{resetTo, setBy};
+ghost use Rattle.settings.specs.Settings.{keywordsBy, resetTo, setBy};
 use directive::Value;
 
 // A time scale, if there is one, as powers of ten; net type, cell, drive and keyword set by their numbers.
@@ -29,17 +29,31 @@ pub fn reset_to(set: usize) -> Settings
     }
 }
 
+// The keyword set behind a directive that says `v`, `set` being the one at the start and `k` the one before.
+pub fn keywords_after(v: Value, set: usize, k: usize) -> usize
+    ensures { λ r. ⌜ r ≡ keywordsBy v set k ⌝ }
+{
+    match v {
+        Value::Nothing => k,
+        Value::Times(_, _) => k,
+        Value::NetType(_) => k,
+        Value::Cell(_) => k,
+        Value::Drive(_) => k,
+        Value::Version(n) => n,
+        Value::StartingSet => set,
+        Value::Reset => set,
+    }
+}
+
 // The state behind a directive that says `v`.
 pub fn set_by(v: Value, set: usize, c: Settings) -> Settings
     ensures { λ r. ⌜ r ≡ setBy v set c ⌝ }
 {
     let mut r = c;
+    r.keywords = keywords_after(v, set, c.keywords);
     match v {
         Value::Nothing => {
-            return c;
-        }
-        Value::MacroName(_, _) => {
-            return c;
+            return r;
         }
         Value::Times(u, p) => {
             r.scaled = true;
@@ -59,16 +73,14 @@ pub fn set_by(v: Value, set: usize, c: Settings) -> Settings
             r.drive = n;
             return r;
         }
-        Value::Version(n) => {
-            r.keywords = n;
+        Value::Version(_) => {
             return r;
         }
         Value::StartingSet => {
-            r.keywords = set;
             return r;
         }
         Value::Reset => {
-            return reset_to(set);
+            return reset_to(r.keywords);
         }
     }
 }

@@ -1,7 +1,8 @@
 // Byte strings: reading one byte, comparing words, byte order.
 ghost use mathlib.Core.Path.{_≡_};
+ghost use Prim.Native.Nat.{_≤_};
 ghost use lib.ListN.{getD, drop};
-ghost use Rattle.text.specs.Bytes.{begins, holds, part};
+ghost use Rattle.text.specs.Bytes.{begins, holds, part, twoAt};
 ghost use Rattle.text.specs.Bytes.{same as sameBytes};
 ghost use Rattle.text.specs.Order.{orderOf};
 
@@ -17,6 +18,14 @@ pub fn peek(s: &[u8], at: usize) -> u8
     ensures { λ r. ⌜ r ≡ getD (now (s .entry)) at 0 ⌝ }
 {
     if at < s.len() { s[at] } else { 0 }
+}
+
+// Two bytes, low first; those past the end 0.
+pub fn two_at(s: &[u8], at: usize) -> usize
+    requires { ⌜ at ≤ 4611686018427387904 ⌝ }
+    ensures { λ r. ⌜ (r ≡ twoAt (now (s .entry)) at) × (r ≤ 65535) ⌝ }
+{
+    peek(s, at) as usize + 256 * (peek(s, at + 1) as usize)
 }
 
 // Whether two words are the same.

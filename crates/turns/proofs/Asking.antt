@@ -17,10 +17,14 @@ use Rattle.names.specs.Names.{FileWord, LineWord, Define, Undef, UndefineAll, I
 use Rattle.directive.specs.declared.Value.{Value}
 use Rattle.directive.specs.declared.Form.{Form}
 use Rattle.directive.specs.declared.Form.the-variants.{Formed, Unformed, Barred}
+use Rattle.directive.specs.declared.MacroName.{MacroName}
+use Rattle.directive.specs.declared.MacroName.the-variants as name
 use Rattle.directive.specs.declared.FileName.{FileName}
 use Rattle.directive.specs.declared.FileName.the-variants.{Unnamed, Quoted, Angled}
 use Rattle.directive.specs.declared.IncludeLine.{IncludeLine}
+use Rattle.directive.specs.Forms.{undefAt}
 use Rattle.directive.specs.Include.{includeAt}
+use Rattle.directive.proofs.Undefining.{formOf, undef-form}
 use Rattle.definition.specs.Definitions.{Definition, barred, bad, good, definitionAt}
 use Rattle.conditions.specs.declared.Condition.{Condition}
 use Rattle.conditions.specs.declared.Condition.the-variants.{Truth, Refused}
@@ -28,7 +32,7 @@ use Rattle.conditions.proofs.Parts.{condition-level}
 use Rattle.blocks.specs.Blocks.{Conditional, takenBy, nextBlock, closeBlock}
 use Rattle.handover.specs.Entries.{entryOf}
 use Rattle.turns.specs.States.{Context, Frame, State, Here}
-use Rattle.turns.specs.Acts.{Act, keeps, refusesHere, onForm, formHere, isDefinedHere, conditionHere, onCondition, onBlocks, openAct, conditionAct, conditionalAct, defineAct, hideAct, enterAct, onFile, includeAct, takenAct, graveAct, actAt}
+use Rattle.turns.specs.Acts.{Act, keeps, refusesHere, onForm, formHere, isDefinedHere, conditionHere, onCondition, onBlocks, openAct, conditionAct, conditionalAct, defineAct, hideAct, undefAct, enterAct, onFile, includeAct, takenAct, graveAct, actAt}
 use Rattle.turns.specs.Asking.{Reading, Named, EndsAt, Taken, Ignored, of-token, of-form, of-condition, of-definition, of-line, of-rule, ill, well, Opens, by-ifdef, by-ifndef, by-elsif, by-else, by-endif, Includes, quoted-name, angled-name, all-but, no-more, file-name, line-number, Asks, to-refuse, to-leave, to-copy, to-skip, to-hide, to-branch, to-define, to-undefine, to-include, to-keep, to-spell, to-expand}
 use Rattle.turns.specs.Usages.{outerOf, usageEnd, expandHere}
 use Rattle.turns.specs.Turns.{hereAt}
@@ -108,6 +112,16 @@ module _ (h : Here) where
     hide-asks (bad e) c t q = to-hide (named Define c) t (ill q) (ends-at h e (bad-inside (h .body) (h .token .end) (a .reading .within) e q))
     hide-asks (good m e) c t q = to-hide (named Define c) t (well q) (ends-at h e (good-inside (h .body) (h .token .end) (a .reading .within) m e q))
 
+    undef-asks : (y : MacroName) → eqb d Undef ≡ true → Taken h → undefAt (h .body) (h .token .end) ≡ y → Asks h (undefAct h y)
+    undef-asks y c t q = go y q (undef-form (h .body) (h .token .end) ∙ ap formOf q)
+      where
+        go : (y : MacroName) → undefAt (h .body) (h .token .end) ≡ y → formHere Undef h ≡ formOf y → Asks h (undefAct h y)
+        go (name.Named p e) q f =
+            to-undefine (a .reading) t (all-but p (named Undef c) q)
+            (ends-at h e (form-inside (h .body) (h .token .end) (a .reading .within) Undef _ e f))
+        go name.Unnamed q f = rule 7 (omega arith) (omega arith)
+        go (name.Barred n p) q f = to-refuse (of-form Undef f)
+
     -- the include's line
     abbrev line : IncludeLine
     line = includeAt (h .body) (h .token .end)
@@ -144,7 +158,7 @@ module _ (h : Here) where
     taken-asks t =
         by-test (Asks h) (eqb d 0) (λ q. to-expand (named 0 q) t)
         (λ q. by-test (Asks h) (eqb d Define) (λ q. define-asks (definitionAt (h .body) (h .token .end)) q t refl)
-        (λ q. by-test (Asks h) (eqb d Undef) (λ z. form-asks Undef _ (λ v e f i. to-undefine (a .reading) t (all-but v (named Undef z) f) i))
+        (λ q. by-test (Asks h) (eqb d Undef) (λ q. undef-asks (undefAt (h .body) (h .token .end)) q t refl)
         (λ q. by-test (Asks h) (eqb d UndefineAll) (λ q. to-undefine (a .reading) t (no-more (named UndefineAll q)) (word-ends h (a .reading)))
         (λ q. by-test (Asks h) (eqb d Include) (λ q. include-asks q t)
         (λ q. by-test (Asks h) (leb Resetall d && leb d EndKeywords)

@@ -2,7 +2,7 @@
 -- Assumes nothing.
 use Prim.Native.Nat.{ℕ}
 use Rattle.directive.specs.Words.{wordAt}
-use Rattle.directive.specs.Forms.{nameForm, aloneValue, formAt}
+use Rattle.directive.specs.Forms.{undefForm, readAt, valueOf, formAt, undefAt}
 use Rattle.definition.proofs.Computing.{defining}
 use Rattle.store.specs.Stores.{define, undefine, encode, fits}
 use Rattle.conditions.proofs.Computing.{conditioning}
@@ -19,5 +19,5 @@ use Rattle.turns.specs.Turns.{turnAt}
 use Rattle.turns.specs.Runs.{runFor, power, measure, runFrom, flattened}
 
 unfoldable pub flattening : ℕ
-unfolding defining expanding conditioning wordAt nameForm aloneValue formAt define undefine encode fits parameterForms headForm formOf allStarts startedFrom startsFit newlines lineAt decimal openBlock nextBlock closeBlock cursorPast cursorBehind nameBytes isFileName isEntry allEntries entryOf isSound conditionalAct takenAct actAt turnAt runFor power measure runFrom flattened
+unfolding defining expanding conditioning wordAt undefForm readAt valueOf formAt undefAt define undefine encode fits parameterForms headForm formOf allStarts startedFrom startsFit newlines lineAt decimal openBlock nextBlock closeBlock cursorPast cursorBehind nameBytes isFileName isEntry allEntries entryOf isSound conditionalAct takenAct actAt turnAt runFor power measure runFrom flattened
 flattening = 0

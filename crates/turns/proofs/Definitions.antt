@@ -5,14 +5,14 @@ use Prim.Native.Nat.{ℕ, _≤_}
 use mathlib.Core.List.{List}
 use mathlib.Core.Path.{_≡_, subst}
 use native.Mathlib.Omega.{arith}
-use lib.Dec.{eqb, ltb}
+use lib.Dec.{eqb, leb, ltb}
 use lib.ListN.{length}
 use Rattle.text.specs.Bytes.{part}
 use Rattle.lex.specs.declared.Fault.{Fault}
 use Rattle.lex.specs.declared.Mode.{Mode}
 use Rattle.lex.specs.declared.Token.{Token}
 use Rattle.lex.specs.Faults.{noFault, faultOf, worseOf}
-use Rattle.lex.specs.Tokens.{inDefinition, tokenAt}
+use Rattle.lex.specs.Tokens.{inDefinition, isMark, tokenAt}
 use Rattle.lex.proofs.Tests.{by-test}
 use Rattle.lex.proofs.Progress.{Inside}
 use Rattle.lex.proofs.Barring.{numbered-some}
@@ -20,7 +20,7 @@ use Rattle.lex.proofs.Listing.{by-tokens}
 use Rattle.storing.specs.Stored.{stored}
 use Rattle.definition.specs.declared.Extent.{Extent}
 use Rattle.definition.specs.declared.Head.{Head}
-use Rattle.definition.specs.Extents.{isMark, markOf, extentIn, extentAt, least, barsOf}
+use Rattle.definition.specs.Extents.{markOf, extentIn, extentAt, barsOf}
 use Rattle.definition.specs.Heads.{headAt}
 use Rattle.definition.specs.Lists.{Formals, ill, whole}
 use Rattle.definition.specs.Definitions.{Macro, Definition, barred, bad, good, isBad, shapeBy, textAt, judgedBy, definitionAt}
@@ -33,14 +33,6 @@ module _ (s : List ℕ) where
       by-test (FaultIn s) (eqb (f .number) 0)
       (λ e. by-test (FaultIn s) (isMark t)
       (λ e. record { bars = numbered-some 6 4 (omega arith) (omega arith); place-in = g .place-in }) (λ e. none-in s)) (λ e. h)
-
-  least-in : (f g : Fault) → FaultIn s f → FaultIn s g → FaultIn s (least f g)
-  least-in f g a b =
-      by-test (FaultIn s) (eqb (g .number) 0) (λ e. a)
-      (λ e. by-test (FaultIn s) (eqb (f .number) 0) (λ e. b)
-      (λ e. by-test (FaultIn s) (ltb (g .number) (f .number)) (λ e. b)
-      (λ e. by-test (FaultIn s) (ltb (f .number) (g .number)) (λ e. a)
-      (λ e. by-test (FaultIn s) (ltb (g .place) (f .place)) (λ e. b) (λ e. a)))))
 
   module _ (i : ℕ) where
     record ExtentIn (w : Extent) : Type 0 where
@@ -72,7 +64,9 @@ module _ (s : List ℕ) where
     bars-in : (w : Extent) (x : ℕ) → ExtentIn w → FaultIn s (barsOf w x)
     unfolding barsOf
     bars-in w x h =
-        by-test (FaultIn s) (ltb (w .mark .place) x) (λ e. least-in (w .bars) (w .mark) (h .all-in) (h .mark-in)) (λ e. h .all-in)
+        by-test (FaultIn s) (leb x (w .mark .place)) (λ e. h .all-in)
+        (λ e. by-test (FaultIn s) (ltb (w .bars .place) (w .mark .place))
+        (λ e. worse-in s (w .bars) (w .mark) (h .all-in) (h .mark-in)) (λ e. worse-in s (w .mark) (w .bars) (h .mark-in) (h .all-in)))
 
     judged-in : (h : Head) (e : ℕ) (fs : Formals) → (i ≤ length s → Inside s i e) → DefinitionIn (judgedBy s h e fs)
     unfolding DefinitionIn

@@ -2,7 +2,7 @@
 -- to 6, at a place in the text.
 -- Assumes nothing.
 use Prim.Native.Nat.{ℕ, suc, _+_, _≤_}
-use mathlib.Core.Bool.{Bool, true, false, cond, not, _&&_, _||_}
+use mathlib.Core.Bool.{Bool, true, false, not, _&&_, _||_}
 use mathlib.Core.List.{List, [], _∷_}
 use mathlib.Core.Path.{_≡_, subst}
 use native.Mathlib.Omega.{arith}
@@ -19,7 +19,7 @@ use Rattle.lex.proofs.Tests.{by-test}
 use Rattle.lex.proofs.Progress.{Inside, token-at}
 use Rattle.lex.proofs.Barring.{Barring, numbered-none, illegal-bar, token-bars}
 use Rattle.lex.proofs.Listing.{by-tokens}
-use Rattle.names.specs.Names.{Undef, Include, Timescale, DefaultNettype, UnconnectedDrive, BeginKeywords, Unknown, unitOf, nettypeOf, driveOf, versionOf}
+use Rattle.names.specs.Names.{Undef, Include, Timescale, Unknown, unitOf}
 use Rattle.directive.specs.declared.Word.{Word}
 use Rattle.directive.specs.declared.Word.the-variants as word
 use Rattle.directive.specs.declared.Time.{Time}
@@ -30,12 +30,13 @@ use Rattle.directive.specs.declared.FileName.{FileName}
 use Rattle.directive.specs.declared.FileName.the-variants as file
 use Rattle.directive.specs.declared.IncludeLine.{IncludeLine}
 use Rattle.directive.specs.declared.Value.{Value}
-use Rattle.directive.specs.declared.Value.the-variants.{NetType, Drive, Version}
+use Rattle.directive.specs.declared.Read.{Read}
+use Rattle.directive.specs.declared.Read.the-variants.{Said, Unformed, Barred}
 use Rattle.directive.specs.declared.Form.{Form}
 use Rattle.directive.specs.declared.Form.the-variants as form
 use Rattle.directive.specs.Words.{wraps, wordStart, wordAt}
 use Rattle.directive.specs.Include.{rawFrom, rawEnd, line, behind, behindAt, angledBy, nameAt, includeIn, includeAt}
-use Rattle.directive.specs.Forms.{nameBy, nameForm, power, unitBy, unitAfter, magnitude, timeBy, timeAt, precisionBy, precisionForm, slashBy, slashForm, timescaleBy, timescaleForm, entry, nettypeBy, nettypeForm, driveBy, driveForm, versionBy, versionForm, namedBy, lineForm, includeForm, standsAlone, formAt}
+use Rattle.directive.specs.Forms.{undefBy, undefForm, power, unitBy, unitAfter, magnitude, timeBy, timeAt, precisionBy, precisionForm, slashBy, slashForm, timescaleBy, timescaleForm, takesEntry, entryKind, entryIn, entryBy, entryForm, namedBy, lineForm, includeForm, standsAlone, readAt, formBy, formAt}
 use Rattle.directive.proofs.Wording.{start-past, by-next}
 use Rattle.turns.proofs.Inside.{inside-here, token-in}
 
@@ -97,6 +98,11 @@ module _ (s : List ℕ) where
       ends : i ≤ length s → Inside s i (l .end)
       fault-in : FaultIn s (l .bars)
 
+    ReadIn : Read → Type 0
+    ReadIn (Said a b e) = i ≤ length s → Inside s i e
+    ReadIn Unformed = Unit {0}
+    ReadIn (Barred n p) = BarredIn s n p
+
     FormIn : Form → Type 0
     FormIn (form.Formed v e) = i ≤ length s → Inside s i e
     FormIn form.Unformed = Unit {0}
@@ -112,15 +118,15 @@ module _ (s : List ℕ) where
         by-next s j WordIn tt (λ l e. fault-barred s (faultOf t) (token-fault inFile k (omega arith)) e)
         (λ l. token-in inFile s i k (omega (arith, start-past s j)) l)
 
-    module _ (by : Word → Form) (found : (t : Token) → Inside s i (t .end) → FormIn (by (word.Found t)))
-        (missing : FormIn (by word.Missing)) (stopped : (n p : ℕ) → BarredIn s n p → FormIn (by (word.Barred n p))) where
-      by-word : (w : Word) → WordIn w → FormIn (by w)
+    module _ (by : Word → Read) (found : (t : Token) → Inside s i (t .end) → ReadIn (by (word.Found t)))
+        (missing : ReadIn (by word.Missing)) (stopped : (n p : ℕ) → BarredIn s n p → ReadIn (by (word.Barred n p))) where
+      by-word : (w : Word) → WordIn w → ReadIn (by w)
       unfolding WordIn
       by-word (word.Found t) h = found t h
       by-word word.Missing h = missing
       by-word (word.Barred n p) h = stopped n p h
 
-      next-word : (j : ℕ) → i ≤ j → FormIn (by (wordAt s j))
+      next-word : (j : ℕ) → i ≤ j → ReadIn (by (wordAt s j))
       next-word j h = by-word (wordAt s j) (word-in j h)
 
     -- ---- times
@@ -159,29 +165,29 @@ module _ (s : List ℕ) where
     unfolding timeAt
     time-in j h = time-by (wordAt s j) (word-in j h)
 
-    precision-by : (u : ℕ) (t : Time) → TimeIn t → FormIn (precisionBy u t)
-    unfolding TimeIn FormIn
-    precision-by u (time.Power p e) h = by-test FormIn (ltb u p) (λ q. tt) (λ q w. h)
+    precision-by : (u : ℕ) (t : Time) → TimeIn t → ReadIn (precisionBy u t)
+    unfolding TimeIn ReadIn
+    precision-by u (time.Power p e) h = by-test ReadIn (ltb u p) (λ q. tt) (λ q w. h)
     precision-by u time.Unformed h = tt
     precision-by u (time.Barred b p) h = h
 
-    slash-found : (u : ℕ) (t : Token) → Inside s i (t .end) → FormIn (slashBy s u (word.Found t))
-    unfolding FormIn precisionForm
+    slash-found : (u : ℕ) (t : Token) → Inside s i (t .end) → ReadIn (slashBy s u (word.Found t))
+    unfolding ReadIn precisionForm
     slash-found u t h =
-        by-test FormIn (isByte s 47 t) (λ e. precision-by u (timeAt s (t .end)) (time-in (t .end) (h .past))) (λ e. tt)
+        by-test ReadIn (isByte s 47 t) (λ e. precision-by u (timeAt s (t .end)) (time-in (t .end) (h .past))) (λ e. tt)
 
-    timescale-by : (t : Time) → TimeIn t → FormIn (timescaleBy s t)
-    unfolding TimeIn FormIn slashForm
+    timescale-by : (t : Time) → TimeIn t → ReadIn (timescaleBy s t)
+    unfolding TimeIn ReadIn slashForm
     timescale-by (time.Power u e) h = next-word (slashBy s u) (slash-found u) tt (λ n p h. h) e (h .past)
     timescale-by time.Unformed h = tt
     timescale-by (time.Barred b p) h = h
 
-    -- an entry of a table, where the word is of its kind
-    entry-in : (k : ℕ) (table : List ℕ → ℕ) (v : ℕ → Value) (t : Token) → Inside s i (t .end)
-        → FormIn (let n = table (part s (t .at) (t .end)) in cond (is k t) (entry n (v n) (t .end)) form.Unformed)
-    unfolding FormIn
-    entry-in k table v t h =
-        by-test FormIn (is k t) (λ q. by-test FormIn (eqb (table (part s (t .at) (t .end))) Unknown) (λ q. tt) (λ q w. h)) (λ q. tt)
+    -- a word of a table
+    entry-found : (d : ℕ) (t : Token) → Inside s i (t .end) → ReadIn (entryBy d s (word.Found t))
+    unfolding ReadIn
+    entry-found d t h =
+        by-test ReadIn (not (is (entryKind d) t)) (λ q. tt)
+        (λ q. by-test ReadIn (eqb (entryIn d (part s (t .at) (t .end))) Unknown) (λ q. tt) (λ q w. h))
 
     -- ---- an include's line
 
@@ -246,31 +252,38 @@ module _ (s : List ℕ) where
 
     -- ---- forms
 
-    named-by : (n : FileName) (e : ℕ) → (i ≤ length s → Inside s i e) → FormIn (namedBy n e)
-    unfolding FormIn
+    named-by : (n : FileName) (e : ℕ) → (i ≤ length s → Inside s i e) → ReadIn (namedBy n e)
+    unfolding ReadIn
     named-by file.Unnamed e h = tt
     named-by (file.Quoted a b) e h = h
     named-by (file.Angled a b) e h = h
 
-    line-in : (l : IncludeLine) → LineIn l → FormIn (lineForm l)
-    unfolding FormIn
+    line-in : (l : IncludeLine) → LineIn l → ReadIn (lineForm l)
+    unfolding ReadIn
     line-in l h =
-        by-test FormIn (eqb (l .bars .number) 0) (λ e. named-by (l .file) (l .end) (h .ends))
+        by-test ReadIn (eqb (l .bars .number) 0) (λ e. named-by (l .file) (l .end) (h .ends))
         (λ e. fault-barred s (l .bars) (h .fault-in) e)
 
-    form-in : (d : ℕ) → FormIn (formAt d s i)
-    unfolding FormIn formAt nameForm includeForm timescaleForm nettypeForm driveForm versionForm
-    form-in d =
+    read-in : (d : ℕ) → ReadIn (readAt d s i)
+    unfolding ReadIn readAt undefForm includeForm timescaleForm entryForm
+    read-in d =
         let h : i ≤ i = omega arith in
-        by-test FormIn (eqb d Undef)
-        (λ e. next-word nameBy (λ t h. by-test FormIn (is Name t || is Escaped t) (λ q w. h) (λ q. tt)) tt (λ n p h. h) i h)
-        (λ e. by-test FormIn (standsAlone d) (λ e. inside-here s i)
-        (λ e. by-test FormIn (eqb d Include) (λ e. line-in (includeAt s i) include-in)
-        (λ e. by-test FormIn (eqb d Timescale) (λ e. timescale-by (timeAt s i) (time-in i h))
-        (λ e. by-test FormIn (eqb d DefaultNettype) (λ e. next-word (nettypeBy s) (entry-in Name nettypeOf NetType) tt (λ n p h. h) i h)
-        (λ e. by-test FormIn (eqb d UnconnectedDrive) (λ e. next-word (driveBy s) (entry-in Name driveOf Drive) tt (λ n p h. h) i h)
-        (λ e. by-test FormIn (eqb d BeginKeywords) (λ e. next-word (versionBy s) (entry-in String versionOf Version) tt (λ n p h. h) i h)
-        (λ e. tt)))))))
+        by-test ReadIn (eqb d Undef)
+        (λ e. next-word undefBy (λ t h. by-test ReadIn (is Name t || is Escaped t) (λ q w. h) (λ q. tt)) tt (λ n p h. h) i h)
+        (λ e. by-test ReadIn (standsAlone d) (λ e. inside-here s i)
+        (λ e. by-test ReadIn (eqb d Include) (λ e. line-in (includeAt s i) include-in)
+        (λ e. by-test ReadIn (eqb d Timescale) (λ e. timescale-by (timeAt s i) (time-in i h))
+        (λ e. by-test ReadIn (takesEntry d) (λ e. next-word (entryBy d s) (entry-found d) tt (λ n p h. h) i h) (λ e. tt)))))
+
+    form-by : (d : ℕ) (r : Read) → ReadIn r → FormIn (formBy d r)
+    unfolding ReadIn FormIn
+    form-by d (Said a b e) h = h
+    form-by d Unformed h = tt
+    form-by d (Barred n p) h = h
+
+    form-in : (d : ℕ) → FormIn (formAt d s i)
+    unfolding formAt
+    form-in d = form-by d (readAt d s i) (read-in d)
 
     pub form-inside : i ≤ length s → (d : ℕ) (v : Value) (e : ℕ) → formAt d s i ≡ form.Formed v e → Inside s i e
     unfolding FormIn

@@ -15,3 +15,8 @@ pub mod Leading
 pub mod Rooms
 pub mod Places
 pub mod Lines
+pub mod Taken
+pub mod Files
+pub mod RefusedUsages
+pub mod RefusedTurns
+pub mod Refused

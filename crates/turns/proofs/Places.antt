@@ -12,9 +12,10 @@ use Rattle.lex.proofs.Tests.{by-test}
 use Rattle.definition.specs.Definitions.{Macro}
 use Rattle.writing.specs.Written.{Written, put, placed, mapOf, Room, Put, full, fitted, putIn}
 use Rattle.places.specs.Places.{newlines, lineAt, placeOf}
-use Rattle.pending.specs.Pending.{Pending, View, blanks, calls, names, opens, closes, commas, bars, plain, view}
+use Rattle.pending.specs.Pending.{Pending, view}
+use Rattle.pending.proofs.Viewing.{by-usage}
 use Rattle.replace.specs.Replacing.{Got, refused, got, replace}
-use Rattle.expand.specs.Expanding.{Outer, writes, Expansion, Next, onGot, onPut, dealBy, walk, onward, first, expand}
+use Rattle.expand.specs.Expanding.{Outer, writes, Expansion, Next, onGot, onPut, walk, onward, first, expand}
 use Rattle.handover.specs.Entries.{bodyOf}
 use Rattle.turns.specs.States.{Context}
 use Rattle.turns.specs.Mapping.{InFile, All}
@@ -70,17 +71,6 @@ module _ (x : Context) where
 
   -- what comes out of a usage, all at its place
   module _ (o : Outer) (h : InFile x (o .place)) where
-    deal-placed : (v : View) (wr : Expansion) (re : List ℕ → Expansion) → Placed x (wr .text) → ((w : List ℕ) → Placed x (re w .text))
-        → Placed x (dealBy v wr re .text)
-    deal-placed blanks wr re a b = a
-    deal-placed (calls w) wr re a b = b w
-    deal-placed (names w) wr re a b = a
-    deal-placed (opens c) wr re a b = a
-    deal-placed (closes c) wr re a b = a
-    deal-placed commas wr re a b = a
-    deal-placed (bars n i) wr re a b = a
-    deal-placed plain wr re a b = a
-
     put-placed : (ws : List Written) (r : Room) (p : Put) (go : Room → Expansion) → Placed x ws → ((r′ : Room) → Placed x (go r′ .text))
         → Placed x (onPut ws r p go .text)
     unfolding Placed
@@ -98,9 +88,9 @@ module _ (x : Context) where
       walk-placed ms r [] = tt
       walk-placed ms r (p ∷ ps) =
           let ws = placed 0 (o .place) (writes o p) in
-          deal-placed (view p) (onPut ws r (putIn r ws) (λ r′. walk go o ms r′ ps)) (λ w. onGot go r (replace ms w (p .own) ps))
-          (put-placed ws r (putIn r ws) (λ r′. walk go o ms r′ ps) (placed-one (o .place) h (writes o p)) (λ r′. walk-placed ms r′ ps))
-          (λ w. got-placed r (replace ms w (p .own) ps))
+          by-usage (λ (e : Expansion). Placed x (e .text)) (view p)
+          (λ z. put-placed ws r (putIn r ws) (λ r′. walk go o ms r′ ps) (placed-one (o .place) h (writes o p)) (λ r′. walk-placed ms r′ ps))
+          (λ w z. got-placed r (replace ms w (p .own) ps))
 
     onward-placed : (n : ℕ) (ms : List Macro) (q rest : List Pending) (r : Room) → Placed x (onward n o ms q rest r .text)
     unfolding Placed onward

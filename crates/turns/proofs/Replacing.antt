@@ -4,7 +4,7 @@
 use Prim.Native.Nat.{ℕ, _≤_}
 use mathlib.Core.Bool.{_&&_, _||_}
 use mathlib.Core.Option.{Option, none, some}
-use mathlib.Core.List.{List, [], _∷_, _++_}
+use mathlib.Core.List.{List, [], _∷_}
 use mathlib.Core.Path.{_≡_, refl}
 use native.Mathlib.Omega.{arith}
 use lib.Dec.{eqb}
@@ -22,8 +22,10 @@ use Rattle.definition.specs.Definitions.{Parameter, parameter, Macro, macro}
 use Rattle.store.specs.Stores.{macroAt, find}
 use Rattle.store.specs.declared.Found.{Found}
 use Rattle.store.specs.declared.Found.the-variants.{At, Missing}
+use Rattle.macros.proofs.Each.{Each, each-append}
 use Rattle.sets.specs.Sets.{elem, insertAsc}
 use Rattle.pending.specs.Pending.{Pending, fileTokens, fileFrom, textTokens, View, blanks, calls, names, opens, closes, commas, bars, plain, byteView, isSpacing, isComment, isBlank, kindView, view}
+use Rattle.pending.proofs.Viewing.{by-name}
 use Rattle.arguments.specs.Arguments.{Move, keep, closing, comma, moveOf, Args, args, push, split, after, collect, seekBy, seek}
 use Rattle.arguments.specs.Arguments as arguments
 use Rattle.replace.specs.Tidying.{cleaned, beforeNewline, isBackslash, cleanedAll, dropLeft, keepLast, dropRight, tidy, tidyAll}
@@ -49,14 +51,8 @@ module _ (R : ℕ → Type 0) where
     pub bars-in : Barring (p .bar)
     pub at-in : R (p .at)
 
-  unfoldable pub AllIn : List Pending → Type 0
-  AllIn [] = Unit {0}
-  AllIn (p ∷ ps) = PendingIn p × AllIn ps
-
-  pub append-in : (ps qs : List Pending) → AllIn ps → AllIn qs → AllIn (ps ++ qs)
-  unfolding AllIn
-  append-in [] qs h g = g
-  append-in (p ∷ ps) qs h g = (h .0, append-in ps qs (h .1) g)
+  abbrev pub AllIn : List Pending → Type 0
+  AllIn ps = Each PendingIn ps
 
 -- refused, or what is put in place and what follows
 unfoldable pub GotIn : List ℕ → (ℕ → Type 0) → Got → Type 0
@@ -65,7 +61,7 @@ GotIn s R (got q r) = AllIn (Within s) q × AllIn R r
 
 -- the file's from i on
 from-in : (s : List ℕ) (i : ℕ) → AllIn (Inside s i) (fileFrom s i)
-unfolding AllIn fileFrom fileTokens
+unfolding Each fileFrom fileTokens
 from-in s i =
     by-tokens s (λ (m : Mode) (j : ℕ) (ts : List Token). i ≤ j → AllIn (Inside s i) (fileTokens s ts)) (λ m j l h. tt) (λ m j l q h. tt)
     (λ m j l q r h. let a : tokenAt m s j .at ≡ j = token-at m s j in
@@ -89,7 +85,7 @@ module _ (s : List ℕ) where
   ValueIn (some a) = PutIn a
 
   one-in : (p : Pending) → TokenPut p → PutIn (p ∷ [])
-  unfolding AllIn
+  unfolding Each
   one-in p h = (h, tt)
 
   -- barred by nothing, from no place
@@ -97,7 +93,7 @@ module _ (s : List ℕ) where
   free-in p b a = record { bars-in = rw b (numbered-none 6); at-in = omega arith }
 
   text-in : (t set : List ℕ) (ts : List Token) → PutIn (textTokens t set ts)
-  unfolding AllIn textTokens
+  unfolding Each textTokens
   text-in t set [] = tt
   text-in t set (k ∷ ts) = (free-in _ refl refl, text-in t set ts)
 
@@ -109,23 +105,23 @@ module _ (s : List ℕ) where
       (λ e. by-test TokenPut (eqb (p .kind) String) (λ e. free-in _ refl refl) (λ e. free-in _ refl refl))
 
   cleaned-all : (ps : List Pending) → PutIn (cleanedAll ps)
-  unfolding AllIn cleanedAll
+  unfolding Each cleanedAll
   cleaned-all [] = tt
   cleaned-all (p ∷ ps) =
       by-test PutIn (isBackslash p && beforeNewline ps) (λ e. cleaned-all ps) (λ e. (cleaned-in p, cleaned-all ps))
 
   left-in : (ps : List Pending) → PutIn ps → PutIn (dropLeft ps)
-  unfolding AllIn dropLeft
+  unfolding Each dropLeft
   left-in [] h = tt
   left-in (p ∷ ps) h = by-test PutIn (isSpacing (p .kind)) (λ e. left-in ps (h .1)) (λ e. h)
 
   last-in : (p : Pending) (ps : List Pending) → TokenPut p → PutIn ps → PutIn (keepLast p ps)
-  unfolding AllIn
+  unfolding Each
   last-in p [] h g = by-test PutIn (isSpacing (p .kind)) (λ e. tt) (λ e. (h, tt))
   last-in p (q ∷ qs) h g = (h, g)
 
   right-in : (ps : List Pending) → PutIn ps → PutIn (dropRight ps)
-  unfolding AllIn dropRight
+  unfolding Each dropRight
   right-in [] h = tt
   right-in (p ∷ ps) h = last-in p (dropRight ps) (h .0) (right-in ps (h .1))
 
@@ -140,7 +136,7 @@ module _ (s : List ℕ) where
   -- ---- a macro's text with arguments in place
 
   fallback-in : (set : List ℕ) (d : Option (List ℕ)) → PutIn (fallback set d)
-  unfolding AllIn
+  unfolding Each
   fallback-in set none = tt
   fallback-in set (some d) = text-in d set (tokens inFile d 0)
 
@@ -162,20 +158,13 @@ module _ (s : List ℕ) where
 
   module _ (f : List ℕ → Option (List Pending)) (h : (w : List ℕ) → ValueIn (f w)) where
     image-in : (v : View) (p : Pending) → TokenPut p → PutIn (imageOf v p f)
-    image-in blanks p g = one-in p g
-    image-in (calls w) p g = one-in p g
-    image-in (names w) p g = instead-in (f w) p (h w) g
-    image-in (opens c) p g = one-in p g
-    image-in (closes b) p g = one-in p g
-    image-in commas p g = one-in p g
-    image-in (bars n i) p g = one-in p g
-    image-in plain p g = one-in p g
+    image-in v p g = by-name PutIn v (one-in p g) (λ w e. instead-in (f w) p (h w) g)
 
     place-in-all : (ps : List Pending) → PutIn ps → PutIn (inPlace f ps)
-    unfolding AllIn inPlace
+    unfolding Each inPlace
     place-in-all [] g = tt
     place-in-all (p ∷ ps) g =
-        append-in (Within s) (imageOf (view p) p f) (inPlace f ps) (image-in (view p) p (g .0)) (place-in-all ps (g .1))
+        each-append (PendingIn (Within s)) (imageOf (view p) p f) (inPlace f ps) (image-in (view p) p (g .0)) (place-in-all ps (g .1))
 
   with-in : (set : List ℕ) (fs : List Parameter) (xs : List (List Pending)) (t : List ℕ) → PutIn (textWith set fs (tidyAll xs) t)
   with-in set fs xs t =
@@ -268,7 +257,7 @@ module _ (s : List ℕ) where
       move-in plain due h = keep-in due
 
     collect-in : (ps : List Pending) (due : List ℕ) → AllIn R ps → ArgsIn (collect ps due)
-    unfolding AllIn ArgsIn collect
+    unfolding Each ArgsIn collect
     collect-in [] due a = no-list
     collect-in (p ∷ ps) due a =
         move-in p ps (λ d. collect ps d) (a .1) (λ d. collect-in ps d (a .1)) (view p) due (view-in p (a .0))
@@ -285,7 +274,7 @@ module _ (s : List ℕ) where
     seek-by plain found more h f g = no-list
 
     seek-in : (ps : List Pending) → AllIn R ps → ArgsIn (seek ps)
-    unfolding AllIn ArgsIn seek
+    unfolding Each ArgsIn seek
     seek-in [] a = no-list
     seek-in (p ∷ ps) a =
         seek-by (view p) (collect ps []) (seek ps) (view-in p (a .0)) (collect-in ps [] (a .1)) (seek-in ps (a .1))

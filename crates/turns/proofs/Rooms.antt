@@ -1,9 +1,9 @@
 -- What is written fits the rooms lent for text and map, and the map has one number for each line of the text.
 -- Assumes nothing.
 use Prim.Native.Nat.{ℕ, zero, suc, _-_, _≤_}
-use mathlib.Core.Bool.{Bool, true, false}
+use mathlib.Core.Bool.{true}
 use mathlib.Core.List.{List, [], _∷_, _++_, append-nil}
-use mathlib.Core.Path.{_≡_, refl, ap, subst}
+use mathlib.Core.Path.{_≡_, refl, subst}
 use native.Mathlib.Nat.{sub-zero}
 use native.Mathlib.Omega.{arith}
 use lib.Dec.{eqb, ltb}
@@ -14,13 +14,15 @@ use Rattle.lex.proofs.Tests.{by-test}
 use Rattle.definition.specs.Definitions.{Macro}
 use Rattle.store.specs.Stores.{define, fits}
 use Rattle.settings.specs.declared.Settings.{Settings}
-use Rattle.writing.specs.Written.{Written, put, placed, textOf, mapOf, freshAfter, Room, Put, full, fitted, putIn}
-use Rattle.writing.proofs.Laws.{text-length, map-append}
-use Rattle.pending.specs.Pending.{Pending, View, blanks, calls, names, opens, closes, commas, bars, plain, view}
+use Rattle.writing.specs.Written.{Written, placed, mapOf, freshAfter, Room, Put, full, fitted, putIn}
+use Rattle.writing.specs.Buffers.{lineCount, linesIn}
+use Rattle.writing.proofs.Laws.{text-length, map-length, map-append}
+use Rattle.pending.specs.Pending.{Pending, view}
+use Rattle.pending.proofs.Viewing.{by-usage}
 use Rattle.replace.specs.Replacing.{Got, refused, got, replace}
 use Rattle.blocks.specs.Blocks.{Conditional}
 use Rattle.handover.specs.Sizes.{HandOver, Rooms, isSound}
-use Rattle.expand.specs.Expanding.{Outer, Expansion, Next, dealBy, onGot, walk, onward, onPut as puts, writes as printed, first, expand}
+use Rattle.expand.specs.Expanding.{Outer, Expansion, Next, onGot, walk, onward, onPut as puts, writes as printed, first, expand}
 use Rattle.turns.specs.States.{Context, Frame, State, Turn, more, stop, finished, Here, write, goTo, refuseAt, roomAfter}
 use Rattle.turns.specs.Acts.{Act, refuses, leaves, copies, skips, hides, branches, defines, undefines, includes, keeps, spells, expands, actAt}
 use Rattle.turns.specs.Usages.{afterUsage, usageEnd, expandHere, outerOf}
@@ -28,7 +30,6 @@ use Rattle.turns.specs.Performing.{perform}
 use Rattle.turns.specs.Turns.{hereAt, turnAt}
 use Rattle.turns.proofs.Turning.{by-turn, by-write}
 use Rattle.turns.specs.Runs.{Run, Outcome, follow, runFor, measure, runFrom, contextOf, startOf, flattened}
-use Rattle.turns.specs.Lines.{linesFrom, linesIn}
 
 -- ---- bytes in a room
 
@@ -71,17 +72,6 @@ put-fits r ws =
 -- ---- a usage
 
 module _ (r : Room) where
-  deal-fits : (v : View) (wr : Expansion) (re : List ℕ → Expansion) → Fits r (wr .text) → ((w : List ℕ) → Fits r (re w .text)) →
-      Fits r (dealBy v wr re .text)
-  deal-fits blanks wr re f g = f
-  deal-fits (calls w) wr re f g = g w
-  deal-fits (names w) wr re f g = f
-  deal-fits (opens c) wr re f g = f
-  deal-fits (closes b) wr re f g = f
-  deal-fits commas wr re f g = f
-  deal-fits (bars n i) wr re f g = f
-  deal-fits plain wr re f g = f
-
   got-fits : (go : Next) → ((q rest : List Pending) → Fits r (go q rest r .text)) → (g : Got) → Fits r (onGot go r g .text)
   got-fits go f (refused n i) = fits-none r
   got-fits go f (got q rest) = f q rest
@@ -99,9 +89,9 @@ unfolding walk
 walk-fits go f o ms [] r = fits-none r
 walk-fits go f o ms (p ∷ ps) r =
     let ws = placed 0 (o .place) (printed o p) in
-    deal-fits r (view p) (puts ws r (putIn r ws) (λ r′. walk go o ms r′ ps)) (λ w. onGot go r (replace ms w (p .own) ps))
-    (puts-fits r ws (putIn r ws) (put-fits r ws) (λ r′. walk go o ms r′ ps) (λ r′. walk-fits go f o ms ps r′))
-    (λ w. got-fits r go (λ q rest. f q rest r) (replace ms w (p .own) ps))
+    by-usage (λ (e : Expansion). Fits r (e .text)) (view p)
+    (λ z. puts-fits r ws (putIn r ws) (put-fits r ws) (λ r′. walk go o ms r′ ps) (λ r′. walk-fits go f o ms ps r′))
+    (λ w z. got-fits r go (λ q rest. f q rest r) (replace ms w (p .own) ps))
 
 onward-fits : (n : ℕ) (o : Outer) (ms : List Macro) (q rest : List Pending) (r : Room) → Fits r (onward n o ms q rest r .text)
 unfolding onward
@@ -202,15 +192,9 @@ map-fits h r = by-test (λ (o : Outcome). length (o .map) ≤ r .map) (isSound h
 
 -- ---- lines
 
-written-lines : (fresh : Bool) (ws : List Written) → length (mapOf fresh ws) ≡ linesFrom fresh (textOf ws)
-unfolding mapOf textOf linesFrom
-written-lines fresh [] = refl
-written-lines true (put b p ∷ ws) = ap suc (written-lines (eqb b 10) ws)
-written-lines false (put b p ∷ ws) = written-lines (eqb b 10) ws
-
 -- the map has one number for each line of the text
 pub map-lines : (h : HandOver) (r : Rooms) → length (flattened h r .map) ≡ linesIn (flattened h r .text)
-unfolding flattened linesFrom
+unfolding flattened lineCount
 map-lines h r =
     by-test (λ (o : Outcome). length (o .map) ≡ linesIn (o .text)) (isSound h r)
-    (λ e. written-lines true (runFrom (contextOf h r) (startOf h r) .text)) (λ e. refl)
+    (λ e. map-length true (runFrom (contextOf h r) (startOf h r) .text)) (λ e. refl)

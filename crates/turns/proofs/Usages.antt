@@ -11,13 +11,14 @@ use borrow.Author.Tests.{eqb-true}
 use Rattle.lex.proofs.Progress.{Inside}
 use Rattle.definition.specs.Definitions.{Macro}
 use Rattle.writing.specs.Written.{Room}
+use Rattle.macros.proofs.Each.{Each}
 use Rattle.replace.specs.Replacing.{Got, refused, got}
 use Rattle.expand.specs.Expanding.{Outer, Next, onGot, onward, first, goesOn, expand}
-use Rattle.turns.proofs.Replacing.{AllIn, GotIn, first-in}
+use Rattle.turns.proofs.Replacing.{GotIn, first-in}
 
 module _ (s : List ℕ) (i : ℕ) (l : i ≤ length s) where
   goes-in : (go : Next) (r : Room) (g : Got) → GotIn s (Inside s i) g → eqb (onGot go r g .stop) 0 ≡ true → Inside s i (goesOn s g)
-  unfolding GotIn AllIn
+  unfolding GotIn Each
   goes-in go r (refused n p) h e = absurd (omega (arith, eqb-true n 0 e, h .low))
   goes-in go r (got q []) h e = record { past = l; within = omega arith }
   goes-in go r (got q (p ∷ ps)) h e = h .1 .0 .at-in

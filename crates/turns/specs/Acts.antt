@@ -10,13 +10,14 @@ use Rattle.text.specs.Bytes.{part}
 use Rattle.lex.specs.Tokens.{Grave, End, is, nameOf}
 use Rattle.names.specs.Names.{FileWord, LineWord, Define, Undef, UndefineAll, Ifdef, Elsif, Else, Endif, Include, Resetall, EndKeywords, directiveOf}
 use Rattle.directive.specs.declared.Value.{Value}
-use Rattle.directive.specs.declared.Value.the-variants.{Nothing, MacroName, Times, NetType, Cell, Drive, Version, StartingSet, Reset}
+use Rattle.directive.specs.declared.MacroName.{MacroName}
+use Rattle.directive.specs.declared.MacroName.the-variants as name
 use Rattle.directive.specs.declared.Form.{Form}
 use Rattle.directive.specs.declared.Form.the-variants.{Formed, Unformed, Barred}
 use Rattle.directive.specs.declared.FileName.{FileName}
 use Rattle.directive.specs.declared.FileName.the-variants.{Unnamed, Quoted, Angled}
 use Rattle.directive.specs.declared.IncludeLine.{IncludeLine}
-use Rattle.directive.specs.Forms.{formAt}
+use Rattle.directive.specs.Forms.{formAt, undefAt}
 use Rattle.directive.specs.Include.{includeAt}
 use Rattle.definition.specs.Definitions.{Macro, Definition, barred, bad, good, definitionAt}
 use Rattle.store.specs.Stores.{undefine}
@@ -55,18 +56,6 @@ onForm p (Barred n q) f = refuses n q
 
 abbrev pub formHere : ℕ → Here → Form
 formHere d h = formAt d (h .body) (h .token .end)
-
--- the name in what a directive says
-abbrev pub nameIn : Value → List ℕ → List ℕ
-nameIn Nothing s = []
-nameIn (MacroName a e) s = part s a e
-nameIn (Times u p) s = []
-nameIn (NetType n) s = []
-nameIn (Cell n) s = []
-nameIn (Drive n) s = []
-nameIn (Version n) s = []
-nameIn StartingSet s = []
-nameIn Reset s = []
 
 -- Conditionals
 
@@ -116,9 +105,15 @@ hideAct (barred n p) = refuses n p
 hideAct (bad e) = hides e
 hideAct (good m e) = hides e
 
+-- by the name behind the `undef` at p; 7; or 2 to 6 with the token's place
+abbrev pub onName : ℕ → MacroName → (ℕ → ℕ → Act) → Act
+onName p (name.Named a e) f = f a e
+onName p name.Unnamed f = refuses 7 p
+onName p (name.Barred n q) f = refuses n q
+
 -- "`undef` of an unknown name does nothing"
-abbrev pub undefAct : Here → Act
-undefAct h = onForm (h .token .at) (formHere Undef h) (λ v e. undefines (undefine (nameIn v (h .body)) (h .state .macros)) e)
+abbrev pub undefAct : Here → MacroName → Act
+undefAct h m = onName (h .token .at) m (λ a e. undefines (undefine (part (h .body) a e) (h .state .macros)) e)
 
 -- Includes
 
@@ -158,7 +153,7 @@ unfoldable pub takenAct : ℕ → Here → Act
 takenAct d h =
     cond (eqb d 0) expands
     (cond (eqb d Define) (defineAct (h .token .at) (definitionAt (h .body) (h .token .end)))
-    (cond (eqb d Undef) (undefAct h)
+    (cond (eqb d Undef) (undefAct h (undefAt (h .body) (h .token .end)))
     (cond (eqb d UndefineAll) (undefines [] (h .token .end))
     (cond (eqb d Include) (includeAct h (includeAt (h .body) (h .token .end)))
     (cond (leb Resetall d && leb d EndKeywords) (keepAct d h)

@@ -12,7 +12,9 @@ use Rattle.lex.specs.Tokens.{Grave, End, is, nameOf}
 use Rattle.names.specs.Names.{FileWord, LineWord, Define, Undef, UndefineAll, Ifdef, Ifndef, Elsif, Else, Endif, Include, Resetall, EndKeywords, directiveOf}
 use Rattle.directive.specs.declared.Value.{Value}
 use Rattle.directive.specs.declared.Form.the-variants.{Formed, Barred}
+use Rattle.directive.specs.declared.MacroName.the-variants as name
 use Rattle.directive.specs.declared.FileName.the-variants.{Quoted, Angled}
+use Rattle.directive.specs.Forms.{undefAt}
 use Rattle.directive.specs.Include.{includeAt}
 use Rattle.definition.specs.Definitions.{Macro, barred, bad, good, definitionAt}
 use Rattle.store.specs.Stores.{undefine}
@@ -20,7 +22,7 @@ use Rattle.conditions.specs.declared.Condition.the-variants.{Truth, Refused}
 use Rattle.blocks.specs.Blocks.{Conditional, takenBy, openBlock, nextBlock, closeBlock}
 use Rattle.handover.specs.Entries.{entryOf}
 use Rattle.turns.specs.States.{Here}
-use Rattle.turns.specs.Acts.{Act, refuses, leaves, copies, skips, hides, branches, defines, undefines, includes, keeps, spells, expands, formHere, conditionHere, nameIn, fileWord, lineWord}
+use Rattle.turns.specs.Acts.{Act, refuses, leaves, copies, skips, hides, branches, defines, undefines, includes, keeps, spells, expands, formHere, conditionHere, fileWord, lineWord}
 
 -- a token that 2 to 6 do not bar, before the end of the file
 pub record Reading (h : Here) : Type 0 where
@@ -70,7 +72,7 @@ pub data Opens (h : Here) (d e : ℕ) : Option (List Conditional) → Type 0 whe
 
 -- the macros left by `undef` or `undefineall`, which ends at e
 pub data Remain (h : Here) (e : ℕ) : List Macro → Type 0 where
-  all-but : (v : Value) → Named h Undef → formHere Undef h ≡ Formed v e → Remain h e (undefine (nameIn v (h .body)) (h .state .macros))
+  all-but : (a : ℕ) → Named h Undef → undefAt (h .body) (h .token .end) ≡ name.Named a e → Remain h e (undefine (part (h .body) a e) (h .state .macros))
   no-more : Named h UndefineAll → Remain h e []
 
 -- the form and name of the file on an include's line

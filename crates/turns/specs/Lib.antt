@@ -5,8 +5,8 @@ pub mod Usages
 pub mod Performing
 pub mod Turns
 pub mod Runs
-pub mod Lines
 pub mod Through
 pub mod Leading
+pub mod Files
 pub mod Mapping
 pub mod Examples

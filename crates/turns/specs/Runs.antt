@@ -133,5 +133,9 @@ notTaken =
       settings = resetTo 0;
     }
 
+-- the outcome of the run from the root's first byte on
+abbrev pub ranOver : HandOver → Rooms → Outcome
+ranOver h r = outcomeOf (contextOf h r) (runFrom (contextOf h r) (startOf h r))
+
 unfoldable pub flattened : HandOver → Rooms → Outcome
-flattened h r = cond (isSound h r) (outcomeOf (contextOf h r) (runFrom (contextOf h r) (startOf h r))) notTaken
+flattened h r = cond (isSound h r) (ranOver h r) notTaken

@@ -1,18 +1,21 @@
 // The reserved words of the text on standard input. Arguments: the words lent, up to 65,536, and the keyword set at the
 // start, 0 to 3.
+use formats::least;
+use formats::say_classified;
 use libc::STDERR_FILENO;
 use libc::STDIN_FILENO;
-use report::number_of;
+use options::NO_NUMBER;
+use options::number_of;
 
 fn argument(i: usize) -> u32 {
     let mut word = [0u8; 16];
     let n = os::arg(i, &mut word);
-    number_of(&word[..n])
+    least(number_of(&word[..n]), NO_NUMBER) as u32
 }
 
 fn list(text: &[u8], words: &mut [[u32; 3]], set: u32) {
     let r = classify::classify(text, set, words);
-    report::print_words(r, words);
+    say_classified(r, words);
 }
 
 fn run(text: &[u8], lent: usize, set: u32) {

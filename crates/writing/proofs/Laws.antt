@@ -25,11 +25,15 @@ unfolding placed
 length-placed step p [] = refl
 length-placed step p (b ∷ bs) = ap suc (length-placed step _ bs)
 
+-- a map has an entry for each line
+pub map-length : (fresh : Bool) (ws : List Written) → length (mapOf fresh ws) ≡ lineCount fresh (textOf ws)
+unfolding mapOf textOf lineCount
+map-length fresh [] = refl
+map-length true (put b p ∷ ws) = ap suc (map-length (eqb b 10) ws)
+map-length false (put b p ∷ ws) = map-length (eqb b 10) ws
+
 pub map-placed-length : (fresh : Bool) (step p : ℕ) (w : List ℕ) → length (mapOf fresh (placed step p w)) ≡ lineCount fresh w
-unfolding placed mapOf lineCount
-map-placed-length fresh step p [] = refl
-map-placed-length true step p (b ∷ bs) = ap suc (map-placed-length (eqb b 10) step _ bs)
-map-placed-length false step p (b ∷ bs) = map-placed-length (eqb b 10) step _ bs
+map-placed-length fresh step p w = map-length fresh (placed step p w) ∙ ap (lineCount fresh) (text-placed step p w)
 
 pub text-length : (ws : List Written) → length (textOf ws) ≡ length ws
 unfolding textOf

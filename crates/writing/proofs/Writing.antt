@@ -13,9 +13,9 @@ use lib.Seq.{drop-cons}
 use borrow.Author.Tests.{lt-ltb, le-ltb}
 use Rattle.writing.specs.declared.Spot.{Spot}
 use Rattle.writing.specs.declared.Wrote.the-variants.{Upto, Full}
-use Rattle.writing.specs.Written.{Written, put, placed, mapOf, freshAfter, putIn}
+use Rattle.writing.specs.Written.{Written, put, placed, textOf, mapOf, freshAfter, putIn}
 use Rattle.writing.specs.Buffers.{lineCount, Writable, Puts, WroteBy}
-use Rattle.writing.proofs.Laws.{length-placed, map-placed-length, puts-none, puts-append, puts-text, puts-map}
+use Rattle.writing.proofs.Laws.{length-placed, map-length, map-placed-length, puts-none, puts-append, puts-text, puts-map}
 
 drop-next : (w : List ℕ) (i : ℕ) → i < length w → drop i w ≡ getD w i 0 ∷ drop (i + 1) w
 drop-next w i h = rw (add-one, drop-cons w i 0)
@@ -57,12 +57,6 @@ module _ {w : List ℕ} {fresh : Bool} {i n : ℕ} {f : Bool} (r : Counted w fre
       omega (arith, r .whole)
 
 -- ---- writing
-
--- the entries that one byte takes
-one-line : (f : Bool) (b p : ℕ) → length (mapOf f (put b p ∷ [])) ≡ lineCount f (b ∷ [])
-unfolding mapOf lineCount
-one-line true b p = refl
-one-line false b p = refl
 
 -- a byte that begins a line takes one
 pub one-entry : (f : Bool) (b : ℕ) → f ≡ true → lineCount f (b ∷ []) ≡ 1
@@ -107,12 +101,12 @@ module _ {w : List ℕ} {place step : ℕ} {text₀ map₀ : List ℕ} {z : Spot
 
     pub going-next : {text′ map′ : List ℕ} {p′ : ℕ} {y′ : Spot} → Puts (put (getD w i 0) p ∷ []) text text′ map map′ y y′ → p′ ≡ cond (eqb (getD w i 0) 10) (p + step) p
         → Going w place step text₀ map₀ z text′ map′ (i + 1) p′ y′
-    unfolding placed freshAfter
+    unfolding placed textOf freshAfter
     going-next {text′} {map′} {p′} {y′} s e =
         let b : ℕ = getD w i 0 in
         let f : y′ .fresh ≡ eqb b 10 = ap (λ (x : Spot). x .fresh) (s .spot) in
         let n : y′ .written ≡ y .written + 1 = ap (λ (x : Spot). x .written) (s .spot) in
-        let l : y′ .lines ≡ y .lines + lineCount (y .fresh) (b ∷ []) = ap (λ (x : Spot). x .lines) (s .spot) ∙ ap (λ (k : ℕ). y .lines + k) (one-line (y .fresh) b p) in
+        let l : y′ .lines ≡ y .lines + lineCount (y .fresh) (b ∷ []) = ap (λ (x : Spot). x .lines) (s .spot) ∙ ap (λ (k : ℕ). y .lines + k) (map-length (y .fresh) (put b p ∷ [])) in
         let g : lineCount (y′ .fresh) (drop (i + 1) w) ≡ lineCount (eqb b 10) (drop (i + 1) w) = ap (λ (x : Bool). lineCount x (drop (i + 1) w)) f in
         record {
           done = r .done ++ (put b p ∷ []);

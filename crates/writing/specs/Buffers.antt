@@ -1,21 +1,25 @@
 -- The lent text and map, and where writing stands in them.
 -- Assumes nothing.
 use Prim.Native.Nat.{ℕ, suc, _+_, _-_, _*_, _<_, _≤_}
-use mathlib.Core.Bool.{Bool, cond}
+use mathlib.Core.Bool.{Bool, true, cond}
 use mathlib.Core.Path.{_≡_}
 use mathlib.Core.List.{List, [], _∷_}
 use lib.Dec.{eqb}
 use lib.ListN.{length}
 use lib.Seq.{sets}
-use Rattle.writing.specs.Written.{Written, placed, textOf, mapOf, freshAfter, Room, Put, full, fitted, putIn}
+use Rattle.writing.specs.Written.{Written, textOf, mapOf, freshAfter, Room, full, fitted, putIn}
 use Rattle.writing.specs.declared.Spot.{Spot}
 use Rattle.writing.specs.declared.Wrote.{Wrote}
 use Rattle.writing.specs.declared.Wrote.the-variants as wrote
 
--- the map entries that bytes take
+-- the lines that bytes begin; fresh: the next byte begins one
 unfoldable pub lineCount : Bool → List ℕ → ℕ
 lineCount fresh [] = 0
 lineCount fresh (b ∷ bs) = let r = lineCount (eqb b 10) bs in cond fresh (suc r) r
+
+-- "one number for each written line": a last one without newline counts if it has a byte
+abbrev pub linesIn : List ℕ → ℕ
+linesIn t = lineCount true t
 
 -- the room left in a text and a map of these lengths
 abbrev pub roomOf : ℕ → ℕ → Spot → Room

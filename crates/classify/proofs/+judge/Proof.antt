@@ -1,7 +1,7 @@
 -- `classify::judge` meets its contract: at the first try an answer other than `Short` is right, and the last try has enough bytes.
 -- Assumes nothing.
 use borrow.Author.Needs.{needs}
-use Rattle.definition.proofs.Settling.{settled-full}
+use Rattle.brackets.proofs.Settling.{settled-full}
 use Rattle.classify.proofs.Filled.{other-tag}
 use Prim.Native.Nat.{ℕ, _<_}
 use borrow.Fn.Kinds.{In}

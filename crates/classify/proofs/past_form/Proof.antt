@@ -5,7 +5,7 @@ use Rattle.classify.proofs.past_form.Statement.{statement}
 use Rattle.classify.proofs.past_form.Tie as tie
 
 returns : tie.Need-returns
-returns c = simp (c .before .before .f .given .1, c .set-after .ensures)
+returns c = simp (c .before .before .f .given .1, c .keywords-after .ensures)
 
 returns-2 : tie.Need-returns-2
 returns-2 c = rw (c .enum-told .given .1)

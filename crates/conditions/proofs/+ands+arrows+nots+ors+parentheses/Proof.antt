@@ -33,8 +33,8 @@ use Rattle.conditions.proofs.+ands+arrows+nots+ors+parentheses.Lts-pare
 use Rattle.conditions.proofs.behind.Reads as behind-reads
 use Rattle.conditions.proofs.name_at.Reads as name-at-reads
 use Rattle.conditions.proofs.refuse.Reads as refuse-reads
-use Rattle.conditions.proofs.three_at.Reads as three-at-reads
-use Rattle.conditions.proofs.two_at.Reads as two-at-reads
+use Rattle.conditions.proofs.triple_at.Reads as triple-at-reads
+use Rattle.conditions.proofs.pair_at.Reads as pair-at-reads
 use Rattle.conditions.proofs.next_token.Reads as next-token-reads
 use Rattle.lex.proofs.in_file.Reads as in-file-reads
 use Rattle.lex.proofs.token_at.Reads as token-at-reads
@@ -90,7 +90,7 @@ parentheses-below t = and 3 parentheses-kinds.ps (falls 3 parentheses-kinds.ps _
 -- ---- ands
 
 abbrev ands-calls : ℕ → ands-lts.Claims
-ands-calls t = (nots-below t, nots.Post, two-at-reads.Asked, two-at-reads.Learnt, next-token-reads.Asked, next-token-reads.Learnt)
+ands-calls t = (nots-below t, nots.Post, pair-at-reads.Asked, pair-at-reads.Learnt, next-token-reads.Asked, next-token-reads.Learnt)
 
 abbrev ands-Inv-loop : ands-lts.InvT-loop
 ands-Inv-loop s at left bytes records macros i₀ all₀ i all = ReadsOn s bytes records macros (chained (andsOf s left)) (λ v. all && v) at i
@@ -107,23 +107,23 @@ ands-nots-requires t c κs = (omega (arith, c .before .before .before .pre .0), 
 ands-enum-known-r : (t : ℕ) → ands-lts.Need-enum-known-r (ands-calls t) (ands-at t) ands.Post ands-Inv-loop ands-μ-loop
 ands-enum-known-r t c = search needs
 
-ands-two-at-requires : (t : ℕ) → ands-lts.Need-two-at-requires (ands-calls t) (ands-at t) ands.Post ands-Inv-loop ands-μ-loop
-ands-two-at-requires t c κs = (chain-place (andsOf _ _) (c .before .before .before .before .loop .inv) (c .before .before .before .nots .ensures) (c .before .r .given .1) (c .before .before .before .before .before .before .before .pre .1 .1) .1 .inside .within, omega arith, omega arith)
+ands-pair-at-requires : (t : ℕ) → ands-lts.Need-pair-at-requires (ands-calls t) (ands-at t) ands.Post ands-Inv-loop ands-μ-loop
+ands-pair-at-requires t c κs = (chain-place (andsOf _ _) (c .before .before .before .before .loop .inv) (c .before .before .before .nots .ensures) (c .before .r .given .1) (c .before .before .before .before .before .before .before .pre .1 .1) .1 .inside .within, omega arith, omega arith)
 
 ands-returns : (t : ℕ) → ands-lts.Need-returns (ands-calls t) (ands-at t) ands.Post ands-Inv-loop ands-μ-loop
-ands-returns t c = chain-ends (andsOf _ _) (c .before .before .before .before .before .before .loop .inv) (c .before .before .before .before .before .nots .ensures) (c .before .before .before .r .given .1) (no-and _ _ (c .before .two-at .ensures) (c .if1 .taken)) refl
+ands-returns t c = chain-ends (andsOf _ _) (c .before .before .before .before .before .before .loop .inv) (c .before .before .before .before .before .nots .ensures) (c .before .before .before .r .given .1) (no-and _ _ (c .before .pair-at .ensures) (c .if1 .taken)) refl
 
 ands-add-next-token : (t : ℕ) → ands-lts.Need-add-next-token (ands-calls t) (ands-at t) ands.Post ands-Inv-loop ands-μ-loop
-ands-add-next-token t c = omega (arith, operator-level (andsOf (c .before .before .before .before .before .before .before .before .before .args .s .now) (c .before .before .before .before .before .before .before .before .before .args .left)) (and-here (c .before .before .before .before .before .before .before .before .before .args .s .now) (c .before .before .before .r .given .0 .1 .0) (c .before .two-at .ensures) (c .if1 .left)) .inside .within)
+ands-add-next-token t c = omega (arith, operator-level (andsOf (c .before .before .before .before .before .before .before .before .before .args .s .now) (c .before .before .before .before .before .before .before .before .before .args .left)) (and-here (c .before .before .before .before .before .before .before .before .before .args .s .now) (c .before .before .before .r .given .0 .1 .0) (c .before .pair-at .ensures) (c .if1 .left)) .inside .within)
 
 ands-next-token-requires : (t : ℕ) → ands-lts.Need-next-token-requires (ands-calls t) (ands-at t) ands.Post ands-Inv-loop ands-μ-loop
 ands-next-token-requires t c κs = tt
 
 ands-loop-less : (t : ℕ) → ands-lts.Need-loop-less (ands-calls t) (ands-at t) ands.Post ands-Inv-loop ands-μ-loop
-ands-loop-less t c = chain-less (andsOf _ _) (c .before .before .before .before .before .before .before .loop .inv) (c .before .before .before .before .before .before .nots .ensures) (c .before .before .before .before .r .given .1) (and-here _ _ (c .before .before .two-at .ensures) (c .before .if1 .left)) (c .next-token .ensures) (c .before .before .before .before .before .before .before .before .before .before .pre .1 .1)
+ands-loop-less t c = chain-less (andsOf _ _) (c .before .before .before .before .before .before .before .loop .inv) (c .before .before .before .before .before .before .nots .ensures) (c .before .before .before .before .r .given .1) (and-here _ _ (c .before .before .pair-at .ensures) (c .before .if1 .left)) (c .next-token .ensures) (c .before .before .before .before .before .before .before .before .before .before .pre .1 .1)
 
 ands-loop-again : (t : ℕ) → ands-lts.Need-loop-again (ands-calls t) (ands-at t) ands.Post ands-Inv-loop ands-μ-loop
-ands-loop-again t c = chain-next (andsOf _ _) (c .before .before .before .before .before .before .before .loop .inv) (c .before .before .before .before .before .before .nots .ensures) (c .before .before .before .before .r .given .1) (and-here _ _ (c .before .before .two-at .ensures) (c .before .if1 .left)) (c .next-token .ensures) _ (λ w. sym (and-assoc (c .before .before .before .before .before .before .before .loop .all) (c .before .before .before .before .r .given .0 .0) w))
+ands-loop-again t c = chain-next (andsOf _ _) (c .before .before .before .before .before .before .before .loop .inv) (c .before .before .before .before .before .before .nots .ensures) (c .before .before .before .before .r .given .1) (and-here _ _ (c .before .before .pair-at .ensures) (c .before .if1 .left)) (c .next-token .ensures) _ (λ w. sym (and-assoc (c .before .before .before .before .before .before .before .loop .all) (c .before .before .before .before .r .given .0 .0) w))
 
 ands-enum-known-r-2 : (t : ℕ) → ands-lts.Need-enum-known-r-2 (ands-calls t) (ands-at t) ands.Post ands-Inv-loop ands-μ-loop
 ands-enum-known-r-2 t c = search needs
@@ -134,7 +134,7 @@ ands-returns-2 t c = chain-refused (andsOf _ _) (c .before .before .before .befo
 -- ---- arrows
 
 abbrev arrows-calls : ℕ → arrows-lts.Claims
-arrows-calls t = (ors-below t, ors.Post, two-at-reads.Asked, two-at-reads.Learnt, next-token-reads.Asked, next-token-reads.Learnt, three-at-reads.Asked, three-at-reads.Learnt)
+arrows-calls t = (ors-below t, ors.Post, pair-at-reads.Asked, pair-at-reads.Learnt, next-token-reads.Asked, next-token-reads.Learnt, triple-at-reads.Asked, triple-at-reads.Learnt)
 
 abbrev arrows-Inv-loop : arrows-lts.InvT-loop
 arrows-Inv-loop s at left bytes records macros i₀ no₀ yes₀ i no' yes' = ReadsOn s bytes records macros (chained (arrowsOf s left)) (λ v. cond v yes' no') at i
@@ -151,38 +151,38 @@ arrows-ors-requires t c κs = (omega (arith, c .before .before .before .pre .0),
 arrows-enum-known-r : (t : ℕ) → arrows-lts.Need-enum-known-r (arrows-calls t) (arrows-at t) arrows.Post arrows-Inv-loop arrows-μ-loop
 arrows-enum-known-r t c = search needs
 
-arrows-two-at-requires : (t : ℕ) → arrows-lts.Need-two-at-requires (arrows-calls t) (arrows-at t) arrows.Post arrows-Inv-loop arrows-μ-loop
-arrows-two-at-requires t c κs = (chain-place (arrowsOf _ _) (c .before .before .before .before .loop .inv) (c .before .before .before .ors .ensures) (c .before .r .given .1) (c .before .before .before .before .before .before .before .pre .1 .1) .1 .inside .within, omega arith, omega arith)
+arrows-pair-at-requires : (t : ℕ) → arrows-lts.Need-pair-at-requires (arrows-calls t) (arrows-at t) arrows.Post arrows-Inv-loop arrows-μ-loop
+arrows-pair-at-requires t c κs = (chain-place (arrowsOf _ _) (c .before .before .before .before .loop .inv) (c .before .before .before .ors .ensures) (c .before .r .given .1) (c .before .before .before .before .before .before .before .pre .1 .1) .1 .inside .within, omega arith, omega arith)
 
 arrows-add-next-token : (t : ℕ) → arrows-lts.Need-add-next-token (arrows-calls t) (arrows-at t) arrows.Post arrows-Inv-loop arrows-μ-loop
-arrows-add-next-token t c = omega (arith, operator-level (arrowsOf (c .before .before .before .before .before .before .before .before .before .args .s .now) (c .before .before .before .before .before .before .before .before .before .args .left)) (implies-here (c .before .before .before .before .before .before .before .before .before .args .s .now) (c .before .before .before .r .given .0 .1 .0) (c .before .two-at .ensures) (c .if1 .taken)) .inside .within)
+arrows-add-next-token t c = omega (arith, operator-level (arrowsOf (c .before .before .before .before .before .before .before .before .before .args .s .now) (c .before .before .before .before .before .before .before .before .before .args .left)) (implies-here (c .before .before .before .before .before .before .before .before .before .args .s .now) (c .before .before .before .r .given .0 .1 .0) (c .before .pair-at .ensures) (c .if1 .taken)) .inside .within)
 
 arrows-next-token-requires : (t : ℕ) → arrows-lts.Need-next-token-requires (arrows-calls t) (arrows-at t) arrows.Post arrows-Inv-loop arrows-μ-loop
 arrows-next-token-requires t c κs = tt
 
 arrows-loop-less : (t : ℕ) → arrows-lts.Need-loop-less (arrows-calls t) (arrows-at t) arrows.Post arrows-Inv-loop arrows-μ-loop
-arrows-loop-less t c = chain-less (arrowsOf _ _) (c .before .before .before .before .before .before .before .loop .inv) (c .before .before .before .before .before .before .ors .ensures) (c .before .before .before .before .r .given .1) (implies-here _ _ (c .before .before .two-at .ensures) (c .before .if1 .taken)) (c .next-token .ensures) (c .before .before .before .before .before .before .before .before .before .before .pre .1 .1)
+arrows-loop-less t c = chain-less (arrowsOf _ _) (c .before .before .before .before .before .before .before .loop .inv) (c .before .before .before .before .before .before .ors .ensures) (c .before .before .before .before .r .given .1) (implies-here _ _ (c .before .before .pair-at .ensures) (c .before .if1 .taken)) (c .next-token .ensures) (c .before .before .before .before .before .before .before .before .before .before .pre .1 .1)
 
 arrows-loop-again : (t : ℕ) → arrows-lts.Need-loop-again (arrows-calls t) (arrows-at t) arrows.Post arrows-Inv-loop arrows-μ-loop
-arrows-loop-again t c = chain-next (arrowsOf _ _) (c .before .before .before .before .before .before .before .loop .inv) (c .before .before .before .before .before .before .ors .ensures) (c .before .before .before .before .r .given .1) (implies-here _ _ (c .before .before .two-at .ensures) (c .before .if1 .taken)) (c .next-token .ensures) _ (implied (c .before .before .before .before .before .before .before .loop .no) (c .before .before .before .before .before .before .before .loop .yes) (c .before .before .before .before .r .given .0 .0))
+arrows-loop-again t c = chain-next (arrowsOf _ _) (c .before .before .before .before .before .before .before .loop .inv) (c .before .before .before .before .before .before .ors .ensures) (c .before .before .before .before .r .given .1) (implies-here _ _ (c .before .before .pair-at .ensures) (c .before .if1 .taken)) (c .next-token .ensures) _ (implied (c .before .before .before .before .before .before .before .loop .no) (c .before .before .before .before .before .before .before .loop .yes) (c .before .before .before .before .r .given .0 .0))
 
-arrows-three-at-requires : (t : ℕ) → arrows-lts.Need-three-at-requires (arrows-calls t) (arrows-at t) arrows.Post arrows-Inv-loop arrows-μ-loop
-arrows-three-at-requires t c κs = (chain-place (arrowsOf _ _) (c .before .before .before .before .before .before .loop .inv) (c .before .before .before .before .before .ors .ensures) (c .before .before .before .r .given .1) (c .before .before .before .before .before .before .before .before .before .pre .1 .1) .1 .inside .within, omega arith, omega arith, omega arith)
+arrows-triple-at-requires : (t : ℕ) → arrows-lts.Need-triple-at-requires (arrows-calls t) (arrows-at t) arrows.Post arrows-Inv-loop arrows-μ-loop
+arrows-triple-at-requires t c κs = (chain-place (arrowsOf _ _) (c .before .before .before .before .before .before .loop .inv) (c .before .before .before .before .before .ors .ensures) (c .before .before .before .r .given .1) (c .before .before .before .before .before .before .before .before .before .pre .1 .1) .1 .inside .within, omega arith, omega arith, omega arith)
 
 arrows-add-next-token-2 : (t : ℕ) → arrows-lts.Need-add-next-token-2 (arrows-calls t) (arrows-at t) arrows.Post arrows-Inv-loop arrows-μ-loop
-arrows-add-next-token-2 t c = omega (arith, operator-level (arrowsOf (c .before .before .before .before .before .before .before .before .before .before .before .args .s .now) (c .before .before .before .before .before .before .before .before .before .before .before .args .left)) (equivalent-here (c .before .before .before .before .before .before .before .before .before .before .before .args .s .now) (c .before .before .before .before .before .r .given .0 .1 .0) (c .before .before .before .two-at .ensures) (c .before .before .if1 .left) (c .before .three-at .ensures) (c .if2 .taken)) .inside .within)
+arrows-add-next-token-2 t c = omega (arith, operator-level (arrowsOf (c .before .before .before .before .before .before .before .before .before .before .before .args .s .now) (c .before .before .before .before .before .before .before .before .before .before .before .args .left)) (equivalent-here (c .before .before .before .before .before .before .before .before .before .before .before .args .s .now) (c .before .before .before .before .before .r .given .0 .1 .0) (c .before .before .before .pair-at .ensures) (c .before .before .if1 .left) (c .before .triple-at .ensures) (c .if2 .taken)) .inside .within)
 
 arrows-next-token-requires-2 : (t : ℕ) → arrows-lts.Need-next-token-requires-2 (arrows-calls t) (arrows-at t) arrows.Post arrows-Inv-loop arrows-μ-loop
 arrows-next-token-requires-2 t c κs = tt
 
 arrows-loop-less-2 : (t : ℕ) → arrows-lts.Need-loop-less-2 (arrows-calls t) (arrows-at t) arrows.Post arrows-Inv-loop arrows-μ-loop
-arrows-loop-less-2 t c = chain-less (arrowsOf _ _) (c .before .before .before .before .before .before .before .before .before .loop .inv) (c .before .before .before .before .before .before .before .before .ors .ensures) (c .before .before .before .before .before .before .r .given .1) (equivalent-here _ _ (c .before .before .before .before .two-at .ensures) (c .before .before .before .if1 .left) (c .before .before .three-at .ensures) (c .before .if2 .taken)) (c .next-token2 .ensures) (c .before .before .before .before .before .before .before .before .before .before .before .before .pre .1 .1)
+arrows-loop-less-2 t c = chain-less (arrowsOf _ _) (c .before .before .before .before .before .before .before .before .before .loop .inv) (c .before .before .before .before .before .before .before .before .ors .ensures) (c .before .before .before .before .before .before .r .given .1) (equivalent-here _ _ (c .before .before .before .before .pair-at .ensures) (c .before .before .before .if1 .left) (c .before .before .triple-at .ensures) (c .before .if2 .taken)) (c .next-token2 .ensures) (c .before .before .before .before .before .before .before .before .before .before .before .before .pre .1 .1)
 
 arrows-loop-again-2 : (t : ℕ) → arrows-lts.Need-loop-again-2 (arrows-calls t) (arrows-at t) arrows.Post arrows-Inv-loop arrows-μ-loop
-arrows-loop-again-2 t c = chain-next (arrowsOf _ _) (c .before .before .before .before .before .before .before .before .before .loop .inv) (c .before .before .before .before .before .before .before .before .ors .ensures) (c .before .before .before .before .before .before .r .given .1) (equivalent-here _ _ (c .before .before .before .before .two-at .ensures) (c .before .before .before .if1 .left) (c .before .before .three-at .ensures) (c .before .if2 .taken)) (c .next-token2 .ensures) _ (equal (c .before .before .before .before .before .before .before .before .before .loop .no) (c .before .before .before .before .before .before .before .before .before .loop .yes) (c .before .before .before .before .before .before .r .given .0 .0))
+arrows-loop-again-2 t c = chain-next (arrowsOf _ _) (c .before .before .before .before .before .before .before .before .before .loop .inv) (c .before .before .before .before .before .before .before .before .ors .ensures) (c .before .before .before .before .before .before .r .given .1) (equivalent-here _ _ (c .before .before .before .before .pair-at .ensures) (c .before .before .before .if1 .left) (c .before .before .triple-at .ensures) (c .before .if2 .taken)) (c .next-token2 .ensures) _ (equal (c .before .before .before .before .before .before .before .before .before .loop .no) (c .before .before .before .before .before .before .before .before .before .loop .yes) (c .before .before .before .before .before .before .r .given .0 .0))
 
 arrows-returns : (t : ℕ) → arrows-lts.Need-returns (arrows-calls t) (arrows-at t) arrows.Post arrows-Inv-loop arrows-μ-loop
-arrows-returns t c = chain-ends (arrowsOf _ _) (c .before .before .before .before .before .before .before .before .loop .inv) (c .before .before .before .before .before .before .before .ors .ensures) (c .before .before .before .before .before .r .given .1) (no-arrow _ _ (c .before .before .before .two-at .ensures) (c .before .before .if1 .left) (c .before .three-at .ensures) (c .if2 .left)) (by-value _ _ (c .before .before .before .before .before .r .given .0 .0))
+arrows-returns t c = chain-ends (arrowsOf _ _) (c .before .before .before .before .before .before .before .before .loop .inv) (c .before .before .before .before .before .before .before .ors .ensures) (c .before .before .before .before .before .r .given .1) (no-arrow _ _ (c .before .before .before .pair-at .ensures) (c .before .before .if1 .left) (c .before .triple-at .ensures) (c .if2 .left)) (by-value _ _ (c .before .before .before .before .before .r .given .0 .0))
 
 arrows-enum-known-r-2 : (t : ℕ) → arrows-lts.Need-enum-known-r-2 (arrows-calls t) (arrows-at t) arrows.Post arrows-Inv-loop arrows-μ-loop
 arrows-enum-known-r-2 t c = search needs
@@ -243,7 +243,7 @@ nots-returns-2 t c = nots-end (operandOf _ _) (c .before .before .before .before
 -- ---- ors
 
 abbrev ors-calls : ℕ → ors-lts.Claims
-ors-calls t = (ands-below t, ands.Post, two-at-reads.Asked, two-at-reads.Learnt, next-token-reads.Asked, next-token-reads.Learnt)
+ors-calls t = (ands-below t, ands.Post, pair-at-reads.Asked, pair-at-reads.Learnt, next-token-reads.Asked, next-token-reads.Learnt)
 
 abbrev ors-Inv-loop : ors-lts.InvT-loop
 ors-Inv-loop s at left bytes records macros i₀ any₀ i any = ReadsOn s bytes records macros (chained (orsOf s left)) (λ v. any || v) at i
@@ -260,23 +260,23 @@ ors-ands-requires t c κs = (omega (arith, c .before .before .before .pre .0), (
 ors-enum-known-r : (t : ℕ) → ors-lts.Need-enum-known-r (ors-calls t) (ors-at t) ors.Post ors-Inv-loop ors-μ-loop
 ors-enum-known-r t c = search needs
 
-ors-two-at-requires : (t : ℕ) → ors-lts.Need-two-at-requires (ors-calls t) (ors-at t) ors.Post ors-Inv-loop ors-μ-loop
-ors-two-at-requires t c κs = (chain-place (orsOf _ _) (c .before .before .before .before .loop .inv) (c .before .before .before .ands .ensures) (c .before .r .given .1) (c .before .before .before .before .before .before .before .pre .1 .1) .1 .inside .within, omega arith, omega arith)
+ors-pair-at-requires : (t : ℕ) → ors-lts.Need-pair-at-requires (ors-calls t) (ors-at t) ors.Post ors-Inv-loop ors-μ-loop
+ors-pair-at-requires t c κs = (chain-place (orsOf _ _) (c .before .before .before .before .loop .inv) (c .before .before .before .ands .ensures) (c .before .r .given .1) (c .before .before .before .before .before .before .before .pre .1 .1) .1 .inside .within, omega arith, omega arith)
 
 ors-returns : (t : ℕ) → ors-lts.Need-returns (ors-calls t) (ors-at t) ors.Post ors-Inv-loop ors-μ-loop
-ors-returns t c = chain-ends (orsOf _ _) (c .before .before .before .before .before .before .loop .inv) (c .before .before .before .before .before .ands .ensures) (c .before .before .before .r .given .1) (no-or _ _ (c .before .two-at .ensures) (c .if1 .taken)) refl
+ors-returns t c = chain-ends (orsOf _ _) (c .before .before .before .before .before .before .loop .inv) (c .before .before .before .before .before .ands .ensures) (c .before .before .before .r .given .1) (no-or _ _ (c .before .pair-at .ensures) (c .if1 .taken)) refl
 
 ors-add-next-token : (t : ℕ) → ors-lts.Need-add-next-token (ors-calls t) (ors-at t) ors.Post ors-Inv-loop ors-μ-loop
-ors-add-next-token t c = omega (arith, operator-level (orsOf (c .before .before .before .before .before .before .before .before .before .args .s .now) (c .before .before .before .before .before .before .before .before .before .args .left)) (or-here (c .before .before .before .before .before .before .before .before .before .args .s .now) (c .before .before .before .r .given .0 .1 .0) (c .before .two-at .ensures) (c .if1 .left)) .inside .within)
+ors-add-next-token t c = omega (arith, operator-level (orsOf (c .before .before .before .before .before .before .before .before .before .args .s .now) (c .before .before .before .before .before .before .before .before .before .args .left)) (or-here (c .before .before .before .before .before .before .before .before .before .args .s .now) (c .before .before .before .r .given .0 .1 .0) (c .before .pair-at .ensures) (c .if1 .left)) .inside .within)
 
 ors-next-token-requires : (t : ℕ) → ors-lts.Need-next-token-requires (ors-calls t) (ors-at t) ors.Post ors-Inv-loop ors-μ-loop
 ors-next-token-requires t c κs = tt
 
 ors-loop-less : (t : ℕ) → ors-lts.Need-loop-less (ors-calls t) (ors-at t) ors.Post ors-Inv-loop ors-μ-loop
-ors-loop-less t c = chain-less (orsOf _ _) (c .before .before .before .before .before .before .before .loop .inv) (c .before .before .before .before .before .before .ands .ensures) (c .before .before .before .before .r .given .1) (or-here _ _ (c .before .before .two-at .ensures) (c .before .if1 .left)) (c .next-token .ensures) (c .before .before .before .before .before .before .before .before .before .before .pre .1 .1)
+ors-loop-less t c = chain-less (orsOf _ _) (c .before .before .before .before .before .before .before .loop .inv) (c .before .before .before .before .before .before .ands .ensures) (c .before .before .before .before .r .given .1) (or-here _ _ (c .before .before .pair-at .ensures) (c .before .if1 .left)) (c .next-token .ensures) (c .before .before .before .before .before .before .before .before .before .before .pre .1 .1)
 
 ors-loop-again : (t : ℕ) → ors-lts.Need-loop-again (ors-calls t) (ors-at t) ors.Post ors-Inv-loop ors-μ-loop
-ors-loop-again t c = chain-next (orsOf _ _) (c .before .before .before .before .before .before .before .loop .inv) (c .before .before .before .before .before .before .ands .ensures) (c .before .before .before .before .r .given .1) (or-here _ _ (c .before .before .two-at .ensures) (c .before .if1 .left)) (c .next-token .ensures) _ (λ w. sym (or-assoc (c .before .before .before .before .before .before .before .loop .any) (c .before .before .before .before .r .given .0 .0) w))
+ors-loop-again t c = chain-next (orsOf _ _) (c .before .before .before .before .before .before .before .loop .inv) (c .before .before .before .before .before .before .ands .ensures) (c .before .before .before .before .r .given .1) (or-here _ _ (c .before .before .pair-at .ensures) (c .before .if1 .left)) (c .next-token .ensures) _ (λ w. sym (or-assoc (c .before .before .before .before .before .before .before .loop .any) (c .before .before .before .before .r .given .0 .0) w))
 
 ors-enum-known-r-2 : (t : ℕ) → ors-lts.Need-enum-known-r-2 (ors-calls t) (ors-at t) ors.Post ors-Inv-loop ors-μ-loop
 ors-enum-known-r-2 t c = search needs
@@ -339,18 +339,18 @@ pub +ands+arrows+nots+ors+parentheses-spec : {M : Type 1} → statement M
 +ands+arrows+nots+ors+parentheses-spec =
     close μ-ands μ-arrows μ-nots μ-ors μ-parentheses
     (λ t. ands-lts.spec (ands-calls t) (ands-at t) ands.Post ands-Inv-loop ands-μ-loop
-    (ands-loop-holds t) (ands-nots-requires t) (ands-enum-known-r t) (ands-two-at-requires t) (ands-returns t) (ands-add-next-token t)
+    (ands-loop-holds t) (ands-nots-requires t) (ands-enum-known-r t) (ands-pair-at-requires t) (ands-returns t) (ands-add-next-token t)
     (ands-next-token-requires t) (ands-loop-less t) (ands-loop-again t) (ands-enum-known-r-2 t) (ands-returns-2 t))
     (λ t. arrows-lts.spec (arrows-calls t) (arrows-at t) arrows.Post arrows-Inv-loop arrows-μ-loop
-    (arrows-loop-holds t) (arrows-ors-requires t) (arrows-enum-known-r t) (arrows-two-at-requires t) (arrows-add-next-token t)
-    (arrows-next-token-requires t) (arrows-loop-less t) (arrows-loop-again t) (arrows-three-at-requires t) (arrows-add-next-token-2 t)
+    (arrows-loop-holds t) (arrows-ors-requires t) (arrows-enum-known-r t) (arrows-pair-at-requires t) (arrows-add-next-token t)
+    (arrows-next-token-requires t) (arrows-loop-less t) (arrows-loop-again t) (arrows-triple-at-requires t) (arrows-add-next-token-2 t)
     (arrows-next-token-requires-2 t) (arrows-loop-less-2 t) (arrows-loop-again-2 t) (arrows-returns t) (arrows-enum-known-r-2 t) (arrows-returns-2 t))
     (λ t. nots-lts.spec (nots-calls t) (nots-at t) nots.Post nots-Inv-loop nots-μ-loop
     (nots-loop-holds t) (nots-peek-requires t) (nots-add-next-token t) (nots-next-token-requires t) (nots-loop-less t) (nots-loop-again t)
     (nots-peek-requires-2 t) (nots-parentheses-requires t) (nots-behind-requires t) (nots-returns t) (nots-name-at-requires t)
     (nots-behind-requires-2 t) (nots-returns-2 t))
     (λ t. ors-lts.spec (ors-calls t) (ors-at t) ors.Post ors-Inv-loop ors-μ-loop
-    (ors-loop-holds t) (ors-ands-requires t) (ors-enum-known-r t) (ors-two-at-requires t) (ors-returns t) (ors-add-next-token t)
+    (ors-loop-holds t) (ors-ands-requires t) (ors-enum-known-r t) (ors-pair-at-requires t) (ors-returns t) (ors-add-next-token t)
     (ors-next-token-requires t) (ors-loop-less t) (ors-loop-again t) (ors-enum-known-r-2 t) (ors-returns-2 t))
     (λ t. parentheses-lts.spec (parentheses-calls t) (parentheses-at t) parentheses.Post
     (parentheses-returns t) (parentheses-add-next-token t) (parentheses-next-token-requires t) (parentheses-sub-arrows t)

@@ -1,8 +1,8 @@
 -- `definition::formal_at` meets its contract. Its name and the token behind that are those of the definition.
 -- Assumes nothing.
 use mathlib.Core.Path.{sym}
-use Rattle.definition.specs.Answers.{full}
-use Rattle.definition.proofs.Settling.{settled-as}
+use Rattle.brackets.specs.Stacks.{full}
+use Rattle.brackets.proofs.Settling.{settled-as}
 use Rattle.definition.proofs.Defaults.{formal-unnamed, formal-given, formal-plain, formal-other}
 use borrow.Author.Needs.{needs}
 use Rattle.definition.proofs.formal_at.Statement.{statement}

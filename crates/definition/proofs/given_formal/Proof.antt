@@ -6,13 +6,13 @@ use Rattle.definition.proofs.given_formal.Statement.{statement}
 use Rattle.definition.proofs.given_formal.Tie as tie
 
 returns : tie.Need-returns
-returns c = given-upto _ _ (c .before .before .before .before .before .before .default-end .ensures) _ _ _ (c .before .before .r .given .1) (c .peek .ensures)
+returns c = given-upto _ _ _ (c .before .before .before .before .before .before .default-end .ensures) _ _ _ (c .before .before .r .given .1) (c .peek .ensures)
 
 returns-2 : tie.Need-returns-2
-returns-2 c = given-torn _ _ (c .before .before .before .before .default-end .ensures) (c .enum-told .given .1)
+returns-2 c = given-torn _ _ _ (c .before .before .before .before .default-end .ensures) (c .enum-told .given .1)
 
 returns-3 : tie.Need-returns-3
-returns-3 c = given-short _ _ (c .before .before .before .before .default-end .ensures) (c .enum-told2 .given .1)
+returns-3 c = given-short _ _ _ (c .before .before .before .before .default-end .ensures) (c .enum-told2 .given .1)
 
 pub given-formal-spec : {M : Type 1} → statement M
 given-formal-spec =

@@ -1,8 +1,9 @@
 -- `definition::shape_of` meets its contract. It branches as its definition does.
 -- Assumes nothing.
 use mathlib.Core.Path.{sym, ap}
-use Rattle.definition.specs.Answers.{full, listOf}
-use Rattle.definition.proofs.Settling.{settled-as}
+use Rattle.brackets.specs.Stacks.{full}
+use Rattle.brackets.proofs.Settling.{settled-as}
+use Rattle.definition.specs.Answers.{listOf}
 use Rattle.definition.proofs.Counting.{shape-none, shape-bare, shape-listed}
 use borrow.Author.Needs.{needs}
 use Rattle.definition.proofs.shape_of.Statement.{statement}

@@ -14,7 +14,7 @@ put-first-requires c κs =
     let r = c .before .before .before .before .before .before .before .before .before .before .before .before .before .read .ensures in (
       record {
         bytes-small = l .bytes-small;
-        record-small = record { start-small = r .start-small; name-small = r .name-small; text-small = r .text-small; size-small = r .size-small };
+        record-small = r .small;
         macro-small = omega (arith, l .few-macros, named-small (l .stored .macros) (c .before .before .before .before .before .before .before .before .before .before .before .before .before .before .before .before .before .before .before .before .before .before .before .before .before .before .before .before .args .w .now) (c .before .before .before .before .before .before .before .before .before .before .before .before .before .before .before .before .before .before .before .before .before .before .before .before .before .before .before .before .args .s .now) (c .before .before .before .before .before .before .before .before .before .before .before .before .before .before .before .before .before .before .before .before .before .before .before .before .before .before .before .before .args .at) (c .before .before .before .before .before .before .before .before .before .before .before .before .before .before .before .before .before .before .empty .ensures) (c .before .before .before .before .before .before .before .before .before .before .before .before .before .before .before .before .before .before .before .before .before .before .before .before .before .before .before .before .args .macros) (c .before .before .before .before .before .before .before .before .before .before .before .before .before .before .before .before .before .resolve .result) (c .before .before .before .before .before .before .before .before .before .before .before .before .before .before .before .before .before .resolve .ensures (l .stored .macros) (l .stored .holds)) (c .before .before .before .before .before .before .before .before .before .before .before .before .before .before .before .c2 .given .1));
         filled = omega arith;
         base-small = omega arith;

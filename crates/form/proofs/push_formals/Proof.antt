@@ -55,7 +55,7 @@ same-length-6 : tie.Need-same-length-6 Inv-loop μ-loop
 same-length-6 c = c .before .before .before .before .before .before .before .loop .inv .same-length
 
 returns-3 : tie.Need-returns-3 Inv-loop μ-loop
-returns-3 c fs e p = scan-torn (c .before .before .before .before .before .before .before .loop .inv .scan) (c .before .before .before .before .formal-at .ensures) (c .enum-told2 .given .1) p
+returns-3 c fs e p = scan-torn (c .before .before .before .before .before .before .before .loop .inv .scan) (c .before .before .before .before .formal-at .ensures) (c .enum-told2 .given .1) tt p
 
 same-length-7 : tie.Need-same-length-7 Inv-loop μ-loop
 same-length-7 c = c .before .before .before .before .formal-at .kept .1 .1 .0 ∙ c .before .before .before .before .before .before .before .loop .inv .scan .same-length
@@ -73,7 +73,7 @@ same-length-10 : tie.Need-same-length-10 Inv-loop μ-loop
 same-length-10 c = c .before .loop .inv .same-length
 
 returns-5 : tie.Need-returns-5 Inv-loop μ-loop
-returns-5 c fs e p = scan-out (c .before .loop .inv .scan) (c .loop-test .left) p
+returns-5 c fs e p = scan-out (c .before .loop .inv .scan) (c .loop-test .left) tt p
 
 pub push-formals-spec : {M : Type 1} → statement M
 push-formals-spec =

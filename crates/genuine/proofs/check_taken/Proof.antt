@@ -8,7 +8,7 @@ use native.Mathlib.Omega.{arith}
 use lib.ListN.{length, drop}
 use Rattle.text.specs.Bytes.{part}
 use Rattle.genuine.specs.Layout.{leftFrom}
-use Rattle.genuine.proofs.TestingRows.{row-small, take-end, take-blank, take-many, take-odd, take-next}
+use Rattle.genuine.proofs.TestingRows.{take-end, take-blank, take-many, take-odd, take-next}
 use Rattle.genuine.proofs.check_taken.Statement.{statement}
 use Rattle.genuine.proofs.check_taken.Tie as tie
 
@@ -40,7 +40,7 @@ returns-2 : tie.Need-returns-2 Inv-loop μ-loop
 returns-2 c = take-many _ _ _ _ _ (c .before .before .before .before .loop-test .taken) (c .before .before .before .read .ensures) (c .before .before .is-blank .ensures) (c .before .if1 .left) (c .if2 .taken) ∙ c .before .before .before .before .before .loop .inv .0
 
 entry-fits-requires : tie.Need-entry-fits-requires Inv-loop μ-loop
-entry-fits-requires c κs = (row-small (c .before .before .before .before .before .read .ensures), c .before .before .before .before .before .before .before .before .before .before .before .pre .0, omega (arith, c .before .before .before .before .before .before .before .loop .inv .1, c .before .before .before .before .before .before .before .before .before .before .before .pre .1), omega (arith, c .before .before .before .before .before .before .before .loop .inv .2, c .before .before .before .before .before .before .before .before .before .before .before .pre .2))
+entry-fits-requires c κs = (c .before .before .before .before .before .read .ensures .small, c .before .before .before .before .before .before .before .before .before .before .before .pre .0, omega (arith, c .before .before .before .before .before .before .before .loop .inv .1, c .before .before .before .before .before .before .before .before .before .before .before .pre .1), omega (arith, c .before .before .before .before .before .before .before .loop .inv .2, c .before .before .before .before .before .before .before .before .before .before .before .pre .2))
 
 same-length-5 : tie.Need-same-length-5 Inv-loop μ-loop
 same-length-5 c = c .before .before .before .before .before .entry-fits .kept .1 .1 .1 .1 .1 .0 ∙ c .before .before .before .before .before .before .before .before .before .before .before .before .before .loop .inv .1
@@ -52,10 +52,10 @@ returns-3 : tie.Need-returns-3 Inv-loop μ-loop
 returns-3 c = take-odd _ _ _ _ _ (c .before .before .before .before .before .before .before .before .before .before .before .before .loop-test .taken) (c .before .before .before .before .before .before .before .before .before .before .before .read .ensures) (c .before .before .before .before .before .before .before .before .before .before .is-blank .ensures) (c .before .before .before .before .before .before .before .before .before .if1 .left) (c .before .before .before .before .before .before .before .before .if2 .left) (c .before .before .before .before .before .entry-fits .ensures) (c .if3 .taken) ∙ c .before .before .before .before .before .before .before .before .before .before .before .before .before .loop .inv .0
 
 add-to : tie.Need-add-to Inv-loop μ-loop
-add-to c = omega (arith, c .before .before .before .before .before .before .before .before .before .before .before .before .read .ensures .start-small, c .before .before .before .before .before .before .before .before .before .before .before .before .read .ensures .name-small)
+add-to c = omega (arith, c .before .before .before .before .before .before .before .before .before .before .before .before .read .ensures .small .start-small, c .before .before .before .before .before .before .before .before .before .before .before .before .read .ensures .small .name-small)
 
 add-end : tie.Need-add-end Inv-loop μ-loop
-add-end c = omega (arith, c .before .before .before .before .before .before .before .before .before .before .before .before .before .read .ensures .text-small, c .before .before .before .before .before .before .before .before .before .before .before .before .before .read .ensures .size-small)
+add-end c = omega (arith, c .before .before .before .before .before .before .before .before .before .before .before .before .before .read .ensures .small .text-small, c .before .before .before .before .before .before .before .before .before .before .before .before .before .read .ensures .small .size-small)
 
 add-i : tie.Need-add-i Inv-loop μ-loop
 add-i c = omega (arith, c .before .before .before .before .before .before .before .before .before .before .if2 .left)

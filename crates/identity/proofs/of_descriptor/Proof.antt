@@ -92,11 +92,7 @@ module _ {M : Type 1} (𝓤 : URA M) (H : Heap 𝓤) (A : Atoms 𝓤) (W : Given
         calls-at ! (fmOf 𝓤 H (W .laws) 𝓣) (To-blank 𝓤 H A mem run) known-blank ((tt, tt, tt, tt, tt), tt) (no-more !) (λ v.
         use1 W (later (some (λ (r : Stat). (‵ ftrue ⊛ ‵ (Told .own r (v ∷ []))) ⊛ raw (ensured 𝓤 H A blank.ended (blank.clauses 𝓤 H A mem run) tt tt tt r)))) (id⊢ 𝓤 _) $
         await ! tt $ pick ! (λ r.
-        split ! $
-        move ! (1 ∷ []) $
-        drop ! $
-        split ! $
-        drop ! $
+        split ! $ move ! (1 ∷ []) $ drop ! $ split ! $ drop ! $
         peeks ! Told (Is Told) (shows 𝓤 H A Told) r (v ∷ []) (λ r-is.
         land ! (from ! (stop !)) (init ! 3 refl (told-lawful 𝓤 H A W .typed r _ r-is .0)) $
         assigns ! (of-opd ! (load ! (from ! (stop !)) (look ! 3 refl))) (from ! (stop !)) (init ! 7 refl (told-lawful 𝓤 H A W .typed r _ r-is .0)) $
@@ -108,39 +104,26 @@ module _ {M : Type 1} (𝓤 : URA M) (H : Heap 𝓤) (A : Atoms 𝓤) (W : Given
         move ! (1 ∷ []) $
         use1 W (later (some (λ (δ : GName). ‵ (MutRef (named 0) (ν ∷ []) Told .own (lying l₂ δ r) (vptr l₂ 0 ∷ [])) ⊛ ‵ (flent (ν ∷ []) (Body (memOf Told) l₂ 0 δ))))) (lends-ref 𝓤 H A W Told (named 0) (ν ∷ []) r l₂ 0) $
         await ! tt $ pick ! (λ δ.
-        split ! $
-        nothing ! $
-        move ! (3 ∷ 0 ∷ []) $
-        join ! $
-        move ! (0 ∷ 1 ∷ []) $
+        split ! $ nothing ! $ move ! (3 ∷ 0 ∷ []) $ join ! $ move ! (0 ∷ 1 ∷ []) $
         use2 W (raw (To-fstat 𝓤 H A mem run .pre (((ν ∷ [], tt), (fullShare, tt), tt, (fd, (lying l₂ δ r, tt)), (vint w32 (ofZ w32 fd) ∷ [], (vptr l₂ 0 ∷ [], tt))), tt))) (goes-fstat l₂ ν δ r) $
         calls-at ! (fmOf 𝓤 H (W .laws) 𝓣) (To-fstat 𝓤 H A mem run) known-fstat (((ν ∷ [], tt), (fullShare, tt), tt, (fd, (lying l₂ δ r, tt)), (vint w32 (ofZ w32 fd) ∷ [], (vptr l₂ 0 ∷ [], tt))), tt) (and-then ! (load ! (from ! (stop !)) (look ! 9 refl)) (and-then ! (load ! (from ! (stop !)) (look ! 2 refl)) (no-more !))) (λ u.
         use1 W (later (some (λ (got : ℤ). ((‵ (flft (ν ∷ []) fullShare) ⊛ ‵ ftrue) ⊛ ‵ (i32 .own got (u ∷ []))) ⊛ raw (ensured 𝓤 H A fstat.ended (fstat.clauses 𝓤 H A mem run) (ν ∷ [], tt) (fd, (lying l₂ δ r, tt)) tt got)))) (id⊢ 𝓤 _) $
         await ! tt $ pick ! (λ got.
-        split ! $
-        move ! (1 ∷ []) $
+        split ! $ move ! (1 ∷ []) $
         use1 W (some (λ (zs : Unit {0} × (Stat × Unit {0})). ‵ (lasts fstat.ended (ν ∷ [], tt) (fd, (lying l₂ δ r, tt)) zs) ⊛ raw (fact 𝓤 (Status got)))) (id⊢ 𝓤 _) $
         pick ! (λ zs.
-        split ! $
-        move ! (0 ∷ []) $
-        fsplit ! $
-        move ! (1 ∷ []) $
-        fsplit ! $
-        move ! (4 ∷ []) $
-        split ! $
+        split ! $ move ! (0 ∷ []) $ fsplit ! $ move ! (1 ∷ []) $ fsplit ! $ move ! (4 ∷ []) $ split ! $
         move ! (1 ∷ []) $
         peeks ! i32 (Is i32) (shows 𝓤 H A i32) got (u ∷ []) (λ got-is.
         land ! (from ! (stop !)) (init ! 11 refl (sint-lawful 𝓤 H A W w32 .typed got _ got-is .0)) $
-        move ! (1 ∷ []) $
-        split ! $
+        move ! (1 ∷ []) $ split ! $
         lft-end ! tt $
         move ! (0 ∷ 7 ∷ 3 ∷ []) $
         use3 W (later (‵ (memOf Told .lies (zs .1 .0) l₂ 0))) (ref-back 𝓤 H A W Told (ν ∷ []) δ (zs .1 .0) l₂ 0) $
         await ! tt $
         use1 W (some (λ (v′ : Val). ‵ (fat fullShare Cell l₂ 0 v′) ⊛ ‵ (Told .own (zs .1 .0) (v′ ∷ [])))) (part-out-at 𝓤 H A W Told refl fullShare (zs .1 .0) l₂ 0 Cell refl) $
         pick ! (λ v′.
-        split ! $
-        move ! (1 ∷ []) $
+        split ! $ move ! (1 ∷ []) $
         peeks ! Told (Is Told) (shows 𝓤 H A Told) (zs .1 .0) (v′ ∷ []) (λ z-is.
         assigns ! (of-opd ! (load ! (from ! (stop !)) (look ! 1 refl))) (from ! (stop !)) (store ! 9 refl (told-lawful 𝓤 H A W .typed (zs .1 .0) _ z-is .0)) $
         -- [own-z; _2; tru; own-got; lasts; last0; said; _5; _4; _3; _1; _0; tokens; own]
@@ -149,11 +132,7 @@ module _ {M : Type 1} (𝓤 : URA M) (H : Heap 𝓤) (A : Atoms 𝓤) (W : Given
         calls-at ! (fmOf 𝓤 H (W .laws) 𝓣) (To-found 𝓤 H A mem run) known-found ((tt, tt, tt, (got, (zs .1 .0, tt)), (u ∷ [], (v′ ∷ [], tt))), tt) (and-then ! (load ! (from ! (stop !)) (look ! 10 refl)) (and-then ! (load ! (from ! (stop !)) (look ! 8 refl)) (no-more !))) (λ i.
         use1 W (later (some (λ (id : Identity). (‵ ftrue ⊛ ‵ (Known .own id (i ∷ []))) ⊛ raw (ensured 𝓤 H A found.ended (found.clauses 𝓤 H A mem run) tt (got, (zs .1 .0, tt)) tt id)))) (id⊢ 𝓤 _) $
         await ! tt $ pick ! (λ id.
-        split ! $
-        move ! (1 ∷ []) $
-        drop ! $
-        split ! $
-        drop ! $
+        split ! $ move ! (1 ∷ []) $ drop ! $ split ! $ drop ! $
         peeks ! Known (Is Known) (shows 𝓤 H A Known) id (i ∷ []) (λ id-is.
         land ! (from ! (stop !)) (init ! 15 refl (known-lawful 𝓤 H A W .typed id _ id-is .0)) $
         returns ! (look ! 15 refl) $ forget ! 6 refl $ forget ! 8 refl $ forget ! 10 refl $ forget ! 1 refl $ forget ! 13 refl $ forget ! 15 refl $

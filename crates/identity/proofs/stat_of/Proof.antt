@@ -100,11 +100,7 @@ module _ {M : Type 1} (𝓤 : URA M) (H : Heap 𝓤) (A : Atoms 𝓤) (W : Given
         calls-at ! (fmOf 𝓤 H (W .laws) 𝓣) (To-blank 𝓤 H A mem run) known-blank ((tt, tt, tt, tt, tt), tt) (no-more !) (λ v.
         use1 W (later (some (λ (r : Stat). (‵ ftrue ⊛ ‵ (Told .own r (v ∷ []))) ⊛ raw (ensured 𝓤 H A blank.ended (blank.clauses 𝓤 H A mem run) tt tt tt r)))) (id⊢ 𝓤 _) $
         await ! tt $ pick ! (λ r.
-        split ! $
-        move ! (1 ∷ []) $
-        drop ! $
-        split ! $
-        drop ! $
+        split ! $ move ! (1 ∷ []) $ drop ! $ split ! $ drop ! $
         peeks ! Told (Is Told) (shows 𝓤 H A Told) r (v ∷ []) (λ r-is.
         land ! (from ! (stop !)) (init ! 3 refl (told-lawful 𝓤 H A W .typed r _ r-is .0)) $
         assigns ! (of-opd ! (load ! (from ! (stop !)) (look ! 3 refl))) (from ! (stop !)) (init ! 7 refl (told-lawful 𝓤 H A W .typed r _ r-is .0)) $
@@ -116,48 +112,29 @@ module _ {M : Type 1} (𝓤 : URA M) (H : Heap 𝓤) (A : Atoms 𝓤) (W : Given
         move ! (1 ∷ []) $
         use1 W (later (some (λ (δ : GName). ‵ (MutRef (named 1) (ν ∷ []) Told .own (lying l₂ δ r) (vptr l₂ 0 ∷ [])) ⊛ ‵ (flent (ν ∷ []) (Body (memOf Told) l₂ 0 δ))))) (lends-ref 𝓤 H A W Told (named 1) (ν ∷ []) r l₂ 0) $
         await ! tt $ pick ! (λ δ.
-        split ! $
-        move ! (15 ∷ []) $
-        fsplit ! $
+        split ! $ move ! (15 ∷ []) $ fsplit ! $
         use1 W (‵ (ShrRef (named 0) κ Bytes .own path (vptr bp op ∷ [])) ⊛ ‵ (ShrRef (named 0) κ Bytes .own path (vptr bp op ∷ []))) (shr-copy 𝓤 H A W (named 0) κ Bytes .twice path (vptr bp op ∷ [])) $
-        split ! $
-        move ! (17 ∷ []) $
-        split ! $
-        move ! (7 ∷ 1 ∷ []) $
-        join ! $
-        move ! (1 ∷ 0 ∷ []) $
-        join ! $
+        split ! $ move ! (17 ∷ []) $ split ! $ move ! (7 ∷ 1 ∷ []) $ join ! $ move ! (1 ∷ 0 ∷ []) $ join ! $
         move ! (0 ∷ 1 ∷ 4 ∷ []) $
         use3 W (raw (To-stat 𝓤 H A mem run .pre (((κ, (ν ∷ [], tt)), (q, (fullShare, tt)), tt, (path, (lying l₂ δ r, tt)), (vptr bp op ∷ [], (vptr l₂ 0 ∷ [], tt))), tt))) (goes-stat l₂ ν δ r) $
         calls-at ! (fmOf 𝓤 H (W .laws) 𝓣) (To-stat 𝓤 H A mem run) known-stat (((κ, (ν ∷ [], tt)), (q, (fullShare, tt)), tt, (path, (lying l₂ δ r, tt)), (vptr bp op ∷ [], (vptr l₂ 0 ∷ [], tt))), tt) (and-then ! (load ! (from ! (stop !)) (look ! 11 refl)) (and-then ! (load ! (from ! (stop !)) (look ! 4 refl)) (no-more !))) (λ u.
         use1 W (later (some (λ (got : ℤ). ((‵ (flft κ q) ⊛ ‵ (flft (ν ∷ []) fullShare) ⊛ ‵ ftrue) ⊛ ‵ (i32 .own got (u ∷ []))) ⊛ raw (ensured 𝓤 H A stat.ended (stat.clauses 𝓤 H A mem run) (κ, (ν ∷ [], tt)) (path, (lying l₂ δ r, tt)) tt got)))) (id⊢ 𝓤 _) $
         await ! tt $ pick ! (λ got.
-        split ! $
-        move ! (1 ∷ []) $
+        split ! $ move ! (1 ∷ []) $
         use1 W (some (λ (zs : Unit {0} × (Stat × Unit {0})). ‵ (lasts stat.ended (κ, (ν ∷ [], tt)) (path, (lying l₂ δ r, tt)) zs) ⊛ raw (fact 𝓤 (Status got)))) (id⊢ 𝓤 _) $
         pick ! (λ zs.
-        split ! $
-        move ! (0 ∷ []) $
-        fsplit ! $
-        move ! (1 ∷ []) $
-        fsplit ! $
-        move ! (4 ∷ []) $
-        split ! $
+        split ! $ move ! (0 ∷ []) $ fsplit ! $ move ! (1 ∷ []) $ fsplit ! $ move ! (4 ∷ []) $ split ! $
         move ! (1 ∷ []) $
         peeks ! i32 (Is i32) (shows 𝓤 H A i32) got (u ∷ []) (λ got-is.
         land ! (from ! (stop !)) (init ! 13 refl (sint-lawful 𝓤 H A W w32 .typed got _ got-is .0)) $
-        move ! (1 ∷ []) $
-        split ! $
-        move ! (1 ∷ []) $
-        split ! $
+        move ! (1 ∷ []) $ split ! $ move ! (1 ∷ []) $ split ! $
         lft-end ! tt $
         move ! (0 ∷ 10 ∷ 4 ∷ []) $
         use3 W (later (‵ (memOf Told .lies (zs .1 .0) l₂ 0))) (ref-back 𝓤 H A W Told (ν ∷ []) δ (zs .1 .0) l₂ 0) $
         await ! tt $
         use1 W (some (λ (v′ : Val). ‵ (fat fullShare Cell l₂ 0 v′) ⊛ ‵ (Told .own (zs .1 .0) (v′ ∷ [])))) (part-out-at 𝓤 H A W Told refl fullShare (zs .1 .0) l₂ 0 Cell refl) $
         pick ! (λ v′.
-        split ! $
-        move ! (1 ∷ []) $
+        split ! $ move ! (1 ∷ []) $
         peeks ! Told (Is Told) (shows 𝓤 H A Told) (zs .1 .0) (v′ ∷ []) (λ z-is.
         assigns ! (of-opd ! (load ! (from ! (stop !)) (look ! 1 refl))) (from ! (stop !)) (store ! 12 refl (told-lawful 𝓤 H A W .typed (zs .1 .0) _ z-is .0)) $
         -- [own-z; _2; tru; tokp; own-got; lasts; last0; said; path-kept; junk1; _5; _4; _3; _1; _0]
@@ -166,15 +143,10 @@ module _ {M : Type 1} (𝓤 : URA M) (H : Heap 𝓤) (A : Atoms 𝓤) (W : Given
         calls-at ! (fmOf 𝓤 H (W .laws) 𝓣) (To-found 𝓤 H A mem run) known-found ((tt, tt, tt, (got, (zs .1 .0, tt)), (u ∷ [], (v′ ∷ [], tt))), tt) (and-then ! (load ! (from ! (stop !)) (look ! 13 refl)) (and-then ! (load ! (from ! (stop !)) (look ! 11 refl)) (no-more !))) (λ i.
         use1 W (later (some (λ (id : Identity). (‵ ftrue ⊛ ‵ (Known .own id (i ∷ []))) ⊛ raw (ensured 𝓤 H A found.ended (found.clauses 𝓤 H A mem run) tt (got, (zs .1 .0, tt)) tt id)))) (id⊢ 𝓤 _) $
         await ! tt $ pick ! (λ id.
-        split ! $
-        move ! (1 ∷ []) $
-        drop ! $
-        split ! $
-        drop ! $
+        split ! $ move ! (1 ∷ []) $ drop ! $ split ! $ drop ! $
         peeks ! Known (Is Known) (shows 𝓤 H A Known) id (i ∷ []) (λ id-is.
         land ! (from ! (stop !)) (init ! 18 refl (known-lawful 𝓤 H A W .typed id _ id-is .0)) $
-        move ! (3 ∷ 2 ∷ []) $
-        join ! $
+        move ! (3 ∷ 2 ∷ []) $ join ! $
         returns ! (look ! 17 refl) $ forget ! 8 refl $ forget ! 10 refl $ forget ! 12 refl $ forget ! 2 refl $ forget ! 15 refl $ forget ! 17 refl $
         move ! (17 ∷ 18 ∷ []) $ free1 ! $ move ! (15 ∷ 16 ∷ []) $ free1 ! $ move ! (2 ∷ 14 ∷ []) $ free1 ! $ move ! (11 ∷ 12 ∷ []) $ free1 ! $ move ! (9 ∷ 10 ∷ []) $ free1 ! $ move ! (7 ∷ 8 ∷ []) $ free1 ! $ free0 ! $
         keep ! (0 ∷ 5 ∷ 1 ∷ []) $

@@ -3,7 +3,7 @@
 use Prim.Native.Nat.{_-_}
 use native.Mathlib.Omega.{arith}
 use borrow.Author.Needs.{needs}
-use Rattle.input.proofs.Filling.{Bodying, bodies-none, bodies-broken, bodies-next, bodies-past, bodies-done}
+use Rattle.input.proofs.Filling.{filling-none, Bodying, bodies-broken, bodies-next, bodies-past, bodies-done}
 use Rattle.input.proofs.parse_bodies.Statement.{statement}
 use Rattle.input.proofs.parse_bodies.Tie as tie
 
@@ -14,7 +14,7 @@ abbrev μ-loop : tie.MeasureT-loop
 μ-loop s at n table₀ i₀ k₀ table i k = n - k
 
 loop-holds : tie.Need-loop-holds Inv-loop μ-loop
-loop-holds c = bodies-none (c .before .pre .1)
+loop-holds c = filling-none (c .before .pre .1)
 
 same-length : tie.Need-same-length Inv-loop μ-loop
 same-length c = c .before .before .before .loop .inv .long
@@ -32,7 +32,7 @@ same-length-2 : tie.Need-same-length-2 Inv-loop μ-loop
 same-length-2 c = c .before .loop .inv .long
 
 returns-2 : tie.Need-returns-2 Inv-loop μ-loop
-returns-2 c = bodies-done (c .before .loop .inv) (c .loop-test .left)
+returns-2 c = bodies-done (c .loop-test .left) (c .before .loop .inv)
 
 pub parse-bodies-spec : {M : Type 1} → statement M
 parse-bodies-spec =

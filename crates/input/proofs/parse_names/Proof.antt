@@ -4,7 +4,7 @@ use mathlib.Core.Path.{sym, _∙_}
 use Prim.Native.Nat.{_-_}
 use native.Mathlib.Omega.{arith}
 use borrow.Author.Needs.{needs}
-use Rattle.input.proofs.Filling.{Naming, names-none, names-broken, names-next, names-past, names-done}
+use Rattle.input.proofs.Filling.{filling-none, Naming, names-broken, names-next, names-past, names-done}
 use Rattle.input.proofs.parse_names.Statement.{statement}
 use Rattle.input.proofs.parse_names.Tie as tie
 
@@ -15,7 +15,7 @@ abbrev μ-loop : tie.MeasureT-loop
 μ-loop s at n table₀ i₀ k₀ table i k = n - k
 
 loop-holds : tie.Need-loop-holds Inv-loop μ-loop
-loop-holds c = names-none (c .before .pre .1)
+loop-holds c = filling-none (c .before .pre .1)
 
 same-length : tie.Need-same-length Inv-loop μ-loop
 same-length c = c .before .before .before .before .before .loop .inv .long
@@ -33,7 +33,7 @@ same-length-2 : tie.Need-same-length-2 Inv-loop μ-loop
 same-length-2 c = c .before .loop .inv .long
 
 returns-2 : tie.Need-returns-2 Inv-loop μ-loop
-returns-2 c = names-done (c .before .loop .inv) (c .loop-test .left)
+returns-2 c = names-done (c .loop-test .left) (c .before .loop .inv)
 
 pub parse-names-spec : {M : Type 1} → statement M
 parse-names-spec =

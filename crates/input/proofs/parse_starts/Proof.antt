@@ -4,7 +4,7 @@ use mathlib.Core.Path.{_∙_}
 use Prim.Native.Nat.{_-_}
 use native.Mathlib.Omega.{arith}
 use borrow.Author.Needs.{needs}
-use Rattle.input.proofs.Filling.{Starting, starts-none, starts-broken, starts-next, starts-past, starts-done}
+use Rattle.input.proofs.Filling.{filling-none, Starting, starts-broken, starts-next, starts-past, starts-done}
 use Rattle.input.proofs.parse_starts.Statement.{statement}
 use Rattle.input.proofs.parse_starts.Tie as tie
 
@@ -15,7 +15,7 @@ abbrev μ-loop : tie.MeasureT-loop
 μ-loop s at n starts₀ i₀ k₀ starts i k = n - k
 
 loop-holds : tie.Need-loop-holds Inv-loop μ-loop
-loop-holds c = starts-none (c .before .pre .1)
+loop-holds c = filling-none (c .before .pre .1)
 
 same-length : tie.Need-same-length Inv-loop μ-loop
 same-length c = c .before .before .before .before .loop .inv .long
@@ -33,7 +33,7 @@ same-length-2 : tie.Need-same-length-2 Inv-loop μ-loop
 same-length-2 c = c .before .loop .inv .long
 
 returns-2 : tie.Need-returns-2 Inv-loop μ-loop
-returns-2 c = starts-done (c .before .loop .inv) (c .loop-test .left)
+returns-2 c = starts-done (c .loop-test .left) (c .before .loop .inv)
 
 pub parse-starts-spec : {M : Type 1} → statement M
 parse-starts-spec =

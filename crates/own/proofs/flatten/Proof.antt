@@ -15,7 +15,7 @@ use prog.Memory.{Memory}
 use prog.Routine.{Routine}
 use prog.Wp.{Heap, Calls, Loops, WpFn, Tables}
 use ghost.Atoms.{Atoms}
-use contract.Monad.{Fun, fact}
+use contract.Monad.{Fun}
 use contract.Running.{givenOf, tables, tablesOf}
 use types.Kit.{Given, Sq, runs, atRet, ‵, raw, later, some, _⊛_, ⋆, _$_, _∵_, !, qed, by, move, keep, drop, split, join, rewrite, use1, use2, use3, pick, await, fsplit, fjoin, feqL, suffices, frame, done}
 use types.Part.{agg, whole, sub, look-in, rep}
@@ -29,15 +29,15 @@ use denote.Memory.{pointee, mem as memOf}
 use denote.Plain.{uint-makes, uint-vals, uint-tells}
 use denote.Builtin.{u8, u32, usize, ArrayOf}
 use denote.Ref.{RefT, now}
-use denote.Slice.{sliceTy, sliceVal, MutSlice, ShrSlice, Room, finally, slice-vals, mut-slice-tells, shr-slice-tells, shr-slice-copy}
+use denote.Slice.{sliceTy, sliceVal, MutSlice, ShrSlice, Room, finally, slice-vals, mut-slice-tells, shr-slice-tells}
 use denote.Lend.{Held, lends-slice, slice-back}
 use denote.Signature.{plain}
-use denote.Steps.{owned, peeks, heard, nothing, only}
+use denote.Steps.{owned, peeks, nothing, only}
 use denote.Triple.Entry.{onEntry}
 use denote.Triple.Spec.{Meets, tripleOf}
 use denote.Triple.Statement.{Contract, Triple}
 use denote.Triple.Call.{calls-at}
-use denote.Triple.Clauses.{ensured, lasts}
+use denote.Triple.Clauses.{lasts}
 use denote.Triple.Table.{entered, cited}
 use denote.Triple.Walked.{says, Stays, gave-slice, stay-none-slice, stay-none, walkOf, Walks, ends-at, walked, goes-gave-slice, goes-none-slice, goes-none, walk-meets}
 use types.SemTy.{cells, Arr}
@@ -48,6 +48,7 @@ use Rattle.flatten.specs.Flattening.{lent, handOver, Flattens}
 use Rattle.flatten.proofs.Flattened.Laws.{mir as FlaCell}
 use Rattle.records.specs.declared.Record.{Record}
 use Rattle.records.specs.Records.{noRecord, rowsOf}
+use Rattle.records.proofs.Calling.{doubles, answers}
 use Rattle.records.proofs.Record.Laws.{mir as Cell}
 use Rattle.records.proofs.Rec.{Row, val, vals, tells, lawful, makes, copies, zero-is, Fla, Fla-lawful, Five, Two}
 use Rattle.own.specs.declared.Own.{Own}
@@ -174,163 +175,57 @@ module _ {M : Type 1} (𝓤 : URA M) (H : Heap 𝓤) (A : Atoms 𝓤) (W : Given
         rewrite ! 7 (λ (m : ℕ). ‵ (fat fullShare (sliceTy (tyRef erased mut (pointee (Row .written)))) l₁₈ 0 (sliceVal (l₁₁, 0) m))) (sym xs-len) refl $
         assigns ! (addr ! (from ! (fld ! refl (hop ! (look-in ! 25 (sub ! 0 refl (whole !))) (stop !))))) (from ! (stop !)) (init ! 5 refl (tt, tt)) $
         assigns ! (agg ! (and-then ! (load ! (from ! (stop !)) (look ! 5 refl)) (and-then ! (load ! (from ! (fld ! refl (stop !))) (look-in ! 25 (sub ! 1 refl (whole !)))) (no-more !)))) (from ! (stop !)) (init ! 3 refl (tt, (tt, (record { fits = bytes-room .0 }, tt)))) $
-        move ! (46 ∷ []) $
-        fsplit ! $
-        move ! (1 ∷ []) $
-        fsplit ! $
-        move ! (1 ∷ []) $
-        fsplit ! $
-        move ! (1 ∷ []) $
-        fsplit ! $
-        move ! (1 ∷ []) $
-        fsplit ! $
-        move ! (1 ∷ []) $
-        fsplit ! $
-        move ! (1 ∷ []) $
-        fsplit ! $
-        move ! (1 ∷ []) $
-        fsplit ! $
-        move ! (1 ∷ []) $
-        fsplit ! $
-        move ! (9 ∷ []) $
-        use1 W (‵ (ShrSlice (named 0) κfiles u8 .own (xfiles γfiles files) (sfiles ∷ [])) ⊛ ‵ (ShrSlice (named 0) κfiles u8 .own (xfiles γfiles files) (sfiles ∷ []))) (shr-slice-copy 𝓤 H A W (named 0) κfiles u8 .twice (xfiles γfiles files) (sfiles ∷ [])) $
-        split ! $
-        move ! (10 ∷ []) $
-        use1 W (‵ (ShrSlice (named 1) κtab Five .own (xtab γtab tab) (stab ∷ [])) ⊛ ‵ (ShrSlice (named 1) κtab Five .own (xtab γtab tab) (stab ∷ []))) (shr-slice-copy 𝓤 H A W (named 1) κtab Five .twice (xtab γtab tab) (stab ∷ [])) $
-        split ! $
-        move ! (10 ∷ []) $
-        use1 W (‵ (ShrSlice (named 2) κstrs Two .own (xstrs γstrs strs) (sstrs ∷ [])) ⊛ ‵ (ShrSlice (named 2) κstrs Two .own (xstrs γstrs strs) (sstrs ∷ []))) (shr-slice-copy 𝓤 H A W (named 2) κstrs Two .twice (xstrs γstrs strs) (sstrs ∷ [])) $
-        split ! $
-        move ! (34 ∷ 13 ∷ []) $
+        move ! (46 ∷ []) $ fsplit ! $ move ! (1 ∷ []) $ fsplit ! $ move ! (1 ∷ []) $ fsplit ! $ move ! (1 ∷ []) $
+        fsplit ! $ move ! (1 ∷ []) $ fsplit ! $ move ! (1 ∷ []) $ fsplit ! $ move ! (1 ∷ []) $ fsplit ! $
+        move ! (1 ∷ []) $ fsplit ! $ move ! (1 ∷ []) $ fsplit ! $ move ! (9 ∷ []) $
+        doubles W ! (named 0) κfiles u8 (xfiles γfiles files) (sfiles ∷ []) $ move ! (10 ∷ []) $
+        doubles W ! (named 1) κtab Five (xtab γtab tab) (stab ∷ []) $ move ! (10 ∷ []) $
+        doubles W ! (named 2) κstrs Two (xstrs γstrs strs) (sstrs ∷ []) $ move ! (34 ∷ 13 ∷ []) $
         use2 W (‵ (cells (memOf Row) xs l₁₁ 0)) (local-in 𝓤 H A W Row tt 4096 (tyArray Cell 4096) refl xs av l₁₁) $
         lft-new ! tt (λ ν.
         move ! (1 ∷ []) $
         use1 W (later (some (λ (δ : GName). ‵ (MutSlice (named 0) (ν ∷ []) Row .own (at-list l₁₁ δ xs) (sliced l₁₁ ∷ [])) ⊛ ‵ (flent (ν ∷ []) (Held Row (length xs) l₁₁ 0 δ))))) (lends-slice 𝓤 H A W Row (named 0) (ν ∷ []) xs l₁₁ 0 xs-room) $
         await ! tt $ pick ! (λ δ.
-        split ! $
-        move ! (59 ∷ []) $
-        split ! $
-        move ! (1 ∷ []) $
-        split ! $
-        move ! (1 ∷ []) $
-        split ! $
-        move ! (1 ∷ []) $
-        split ! $
-        move ! (1 ∷ []) $
-        split ! $
-        move ! (8 ∷ 1 ∷ []) $
-        join ! $
-        move ! (1 ∷ 0 ∷ []) $
-        join ! $
-        move ! (1 ∷ 0 ∷ []) $
-        join ! $
-        move ! (1 ∷ 0 ∷ []) $
-        join ! $
-        move ! (1 ∷ 0 ∷ []) $
-        join ! $
-        move ! (1 ∷ 0 ∷ []) $
-        join ! $
-        move ! (1 ∷ 9 ∷ []) $
-        join ! $
-        move ! (10 ∷ 0 ∷ []) $
-        join ! $
-        move ! (10 ∷ 0 ∷ []) $
-        join ! $
-        move ! (3 ∷ 0 ∷ []) $
-        join ! $
-        move ! (4 ∷ 0 ∷ []) $
-        join ! $
-        move ! (5 ∷ 0 ∷ []) $
-        join ! $
-        move ! (1 ∷ 0 ∷ []) $
-        join ! $
+        split ! $ move ! (59 ∷ []) $ split ! $ move ! (1 ∷ []) $ split ! $ move ! (1 ∷ []) $ split ! $
+        move ! (1 ∷ []) $ split ! $ move ! (1 ∷ []) $ split ! $ move ! (8 ∷ 1 ∷ []) $ join ! $ move ! (1 ∷ 0 ∷ []) $
+        join ! $ move ! (1 ∷ 0 ∷ []) $ join ! $ move ! (1 ∷ 0 ∷ []) $ join ! $ move ! (1 ∷ 0 ∷ []) $ join ! $
+        move ! (1 ∷ 0 ∷ []) $ join ! $ move ! (1 ∷ 9 ∷ []) $ join ! $ move ! (10 ∷ 0 ∷ []) $ join ! $
+        move ! (10 ∷ 0 ∷ []) $ join ! $ move ! (3 ∷ 0 ∷ []) $ join ! $ move ! (4 ∷ 0 ∷ []) $ join ! $
+        move ! (5 ∷ 0 ∷ []) $ join ! $ move ! (1 ∷ 0 ∷ []) $ join ! $
         use1 W (raw (To-flatten 𝓤 H A mem run .pre (((κfiles, (κtab, (κstrs, (κtext, (κmp, (ν ∷ [], (κbytes, tt))))))), (qfiles, (qtab, (qstrs, (qtext, (qmp, (fullShare, (qbytes, tt))))))), tt, (xfiles γfiles files, (xtab γtab tab, (root, (xstrs γstrs strs, (kset, (lim, (xtext γtext text, (xmp γmp mp, (at-list l₁₁ δ xs, (xbytes γbytes bytes, tt)))))))))), (sfiles ∷ [], (stab ∷ [], (vint w64 root ∷ [], (sstrs ∷ [], (vint w64 kset ∷ [], (vint w64 lim ∷ [], (stext ∷ [], (smp ∷ [], (sliced l₁₁ ∷ [], (sbytes ∷ [], tt))))))))))), tt))) (goes-flatten l₁₁ ν δ) $
         calls-at ! (fmOf 𝓤 H (W .laws) 𝓣) (To-flatten 𝓤 H A mem run) known-flatten (((κfiles, (κtab, (κstrs, (κtext, (κmp, (ν ∷ [], (κbytes, tt))))))), (qfiles, (qtab, (qstrs, (qtext, (qmp, (fullShare, (qbytes, tt))))))), tt, (xfiles γfiles files, (xtab γtab tab, (root, (xstrs γstrs strs, (kset, (lim, (xtext γtext text, (xmp γmp mp, (at-list l₁₁ δ xs, (xbytes γbytes bytes, tt)))))))))), (sfiles ∷ [], (stab ∷ [], (vint w64 root ∷ [], (sstrs ∷ [], (vint w64 kset ∷ [], (vint w64 lim ∷ [], (stext ∷ [], (smp ∷ [], (sliced l₁₁ ∷ [], (sbytes ∷ [], tt))))))))))), tt) (and-then ! (load ! (from ! (stop !)) (look ! 48 refl)) (and-then ! (load ! (from ! (stop !)) (look ! 46 refl)) (and-then ! (load ! (from ! (stop !)) (look ! 44 refl)) (and-then ! (load ! (from ! (stop !)) (look ! 42 refl)) (and-then ! (load ! (from ! (stop !)) (look ! 40 refl)) (and-then ! (load ! (from ! (stop !)) (look ! 38 refl)) (and-then ! (load ! (from ! (stop !)) (look ! 23 refl)) (and-then ! (load ! (from ! (stop !)) (look ! 19 refl)) (and-then ! (load ! (from ! (stop !)) (look ! 15 refl)) (and-then ! (load ! (from ! (stop !)) (look ! 11 refl)) (no-more !))))))))))) (λ wr.
-        use1 W (later (some (λ (got : Flattened). ((‵ (flft (κfiles) qfiles) ⊛ ‵ (flft (κtab) qtab) ⊛ ‵ (flft (κstrs) qstrs) ⊛ ‵ (flft (κtext) qtext) ⊛ ‵ (flft (κmp) qmp) ⊛ ‵ (flft (ν ∷ []) fullShare) ⊛ ‵ (flft (κbytes) qbytes) ⊛ ‵ ftrue) ⊛ ‵ (Fla .own got (wr ∷ []))) ⊛ raw (ensured 𝓤 H A flatten.ended (flatten.clauses 𝓤 H A mem run) (κfiles, (κtab, (κstrs, (κtext, (κmp, (ν ∷ [], (κbytes, tt))))))) (xfiles γfiles files, (xtab γtab tab, (root, (xstrs γstrs strs, (kset, (lim, (xtext γtext text, (xmp γmp mp, (at-list l₁₁ δ xs, (xbytes γbytes bytes, tt)))))))))) tt got)))) (id⊢ 𝓤 _) $
-        await ! tt $ pick ! (λ r.
-        split ! $
-        move ! (1 ∷ []) $
-        use1 W (some (λ (zs : (Unit {0}) × ((Unit {0}) × ((Unit {0}) × ((Unit {0}) × ((Unit {0}) × ((Unit {0}) × ((List (u8 .Denot)) × ((List (u32 .Denot)) × ((List Record) × ((List (u8 .Denot)) × (Unit {0}))))))))))). ‵ (lasts flatten.ended (κfiles, (κtab, (κstrs, (κtext, (κmp, (ν ∷ [], (κbytes, tt))))))) (xfiles γfiles files, (xtab γtab tab, (root, (xstrs γstrs strs, (kset, (lim, (xtext γtext text, (xmp γmp mp, (at-list l₁₁ δ xs, (xbytes γbytes bytes, tt)))))))))) zs) ⊛ raw (fact 𝓤 (Flattens h (lent text mp (rowsOf xs) bytes) (lent (zs .1 .1 .1 .1 .1 .1 .0) (zs .1 .1 .1 .1 .1 .1 .1 .0) (rowsOf (zs .1 .1 .1 .1 .1 .1 .1 .1 .0)) (zs .1 .1 .1 .1 .1 .1 .1 .1 .1 .0)) r)))) (id⊢ 𝓤 _) $
-        pick ! (λ zs.
-        split ! $
-        move ! (1 ∷ []) $
-        heard ! (Flattens h (lent text mp (rowsOf xs) bytes) (lent (zs .1 .1 .1 .1 .1 .1 .0) (zs .1 .1 .1 .1 .1 .1 .1 .0) (rowsOf (zs .1 .1 .1 .1 .1 .1 .1 .1 .0)) (zs .1 .1 .1 .1 .1 .1 .1 .1 .1 .0)) r) (λ e.
-        fsplit ! $
-        move ! (1 ∷ []) $
-        fsplit ! $
-        move ! (1 ∷ []) $
-        fsplit ! $
-        move ! (1 ∷ []) $
-        fsplit ! $
-        move ! (1 ∷ []) $
-        fsplit ! $
-        move ! (1 ∷ []) $
-        fsplit ! $
-        move ! (1 ∷ []) $
-        fsplit ! $
-        fsplit ! $
+        answers W ! tt (‵ (flft (κfiles) qfiles) ⊛ ‵ (flft (κtab) qtab) ⊛ ‵ (flft (κstrs) qstrs) ⊛ ‵ (flft (κtext) qtext) ⊛ ‵ (flft (κmp) qmp) ⊛ ‵ (flft (ν ∷ []) fullShare) ⊛ ‵ (flft (κbytes) qbytes) ⊛ ‵ ftrue) Fla wr (λ (zs : (Unit {0}) × ((Unit {0}) × ((Unit {0}) × ((Unit {0}) × ((Unit {0}) × ((Unit {0}) × ((List (u8 .Denot)) × ((List (u32 .Denot)) × ((List Record) × ((List (u8 .Denot)) × (Unit {0}))))))))))). lasts flatten.ended (κfiles, (κtab, (κstrs, (κtext, (κmp, (ν ∷ [], (κbytes, tt))))))) (xfiles γfiles files, (xtab γtab tab, (root, (xstrs γstrs strs, (kset, (lim, (xtext γtext text, (xmp γmp mp, (at-list l₁₁ δ xs, (xbytes γbytes bytes, tt)))))))))) zs) (λ r zs. Flattens h (lent text mp (rowsOf xs) bytes) (lent (zs .1 .1 .1 .1 .1 .1 .0) (zs .1 .1 .1 .1 .1 .1 .1 .0) (rowsOf (zs .1 .1 .1 .1 .1 .1 .1 .1 .0)) (zs .1 .1 .1 .1 .1 .1 .1 .1 .1 .0)) r) (id⊢ 𝓤 _) (λ r zs e.
+        fsplit ! $ move ! (1 ∷ []) $ fsplit ! $ move ! (1 ∷ []) $ fsplit ! $ move ! (1 ∷ []) $ fsplit ! $
+        move ! (1 ∷ []) $ fsplit ! $ move ! (1 ∷ []) $ fsplit ! $ move ! (1 ∷ []) $ fsplit ! $ fsplit ! $
         move ! (1 ∷ []) $
         feqL ! (λ zs-len6.
-        move ! (1 ∷ []) $
-        fsplit ! $
-        fsplit ! $
-        move ! (1 ∷ []) $
+        move ! (1 ∷ []) $ fsplit ! $ fsplit ! $ move ! (1 ∷ []) $
         feqL ! (λ zs-len7.
-        move ! (1 ∷ []) $
-        fsplit ! $
-        fsplit ! $
-        move ! (1 ∷ []) $
+        move ! (1 ∷ []) $ fsplit ! $ fsplit ! $ move ! (1 ∷ []) $
         feqL ! (λ zs-len8.
-        move ! (1 ∷ []) $
-        fsplit ! $
-        fsplit ! $
-        move ! (1 ∷ []) $
+        move ! (1 ∷ []) $ fsplit ! $ fsplit ! $ move ! (1 ∷ []) $
         feqL ! (λ zs-len9.
-        move ! (1 ∷ []) $
-        move ! (11 ∷ []) $
-        split ! $
-        move ! (1 ∷ []) $
+        move ! (1 ∷ []) $ move ! (11 ∷ []) $ split ! $ move ! (1 ∷ []) $
         peeks ! Fla (Is Fla) (shows 𝓤 H A Fla) r (wr ∷ []) (λ r-is.
         land ! (from ! (stop !)) (init ! 39 refl (Fla-lawful 𝓤 H A W .typed r _ r-is .0)) $
-        move ! (1 ∷ []) $
-        split ! $
-        move ! (1 ∷ []) $
-        split ! $
-        move ! (1 ∷ []) $
-        split ! $
-        move ! (1 ∷ []) $
-        split ! $
-        move ! (1 ∷ []) $
-        split ! $
-        move ! (1 ∷ []) $
-        split ! $
-        move ! (0 ∷ []) $
+        move ! (1 ∷ []) $ split ! $ move ! (1 ∷ []) $ split ! $ move ! (1 ∷ []) $ split ! $ move ! (1 ∷ []) $
+        split ! $ move ! (1 ∷ []) $ split ! $ move ! (1 ∷ []) $ split ! $ move ! (0 ∷ []) $
         lft-end ! tt $
         move ! (0 ∷ 19 ∷ 10 ∷ []) $
         use3 W (later (‵ (Arr (memOf Row) (length xs) .lies (zs .1 .1 .1 .1 .1 .1 .1 .1 .0) l₁₁ 0))) (slice-back 𝓤 H A W Row (ν ∷ []) δ (zs .1 .1 .1 .1 .1 .1 .1 .1 .0) (length xs) l₁₁ 0) $
         await ! tt $
-        fsplit ! $
-        drop ! $
+        fsplit ! $ drop ! $
         use1 W (‵ (fat fullShare (tyArray Cell 4096) l₁₁ 0 (only (array-vals vals (zs .1 .1 .1 .1 .1 .1 .1 .1 .0)))) ⊛ ‵ (Array Row 4096 .own (zs .1 .1 .1 .1 .1 .1 .1 .1 .0) (array-vals vals (zs .1 .1 .1 .1 .1 .1 .1 .1 .0)))) (local-kept 𝓤 H A W Row tt 4096 (tyArray Cell 4096) refl vals tells (zs .1 .1 .1 .1 .1 .1 .1 .1 .0) l₁₁ (zs-len8 ∙ xs-len)) $
-        split ! $
-        move ! (1 ∷ []) $
+        split ! $ move ! (1 ∷ []) $
         peeks ! (Array Row 4096) (Is (Array Row 4096)) (shows 𝓤 H A (Array Row 4096)) (zs .1 .1 .1 .1 .1 .1 .1 .1 .0) (array-vals vals (zs .1 .1 .1 .1 .1 .1 .1 .1 .0)) (λ ys-is.
         assigns ! (of-opd ! (load ! (from ! (stop !)) (look ! 1 refl))) (from ! (stop !)) (init ! 26 refl (array-lawful 𝓤 H A W Row (lawful 𝓤 H A W) 4096 .typed (zs .1 .1 .1 .1 .1 .1 .1 .1 .0) _ ys-is .0)) $
         assigns ! (agg ! (and-then ! (load ! (from ! (stop !)) (look ! 26 refl)) (and-then ! (load ! (from ! (stop !)) (look ! 44 refl)) (no-more !)))) (from ! (stop !)) (init ! 67 refl (Res-lawful 𝓤 H A W .typed (answer (zs .1 .1 .1 .1 .1 .1 .1 .1 .0) r) _ (res-is (zs .1 .1 .1 .1 .1 .1 .1 .1 .0) r _ wr ys-is r-is) .0)) $
-        move ! (3 ∷ 2 ∷ []) $
-        join ! $
-        move ! (3 ∷ 0 ∷ []) $
-        join ! $
-        move ! (3 ∷ 0 ∷ []) $
-        join ! $
-        move ! (3 ∷ 0 ∷ []) $
-        join ! $
-        move ! (3 ∷ 0 ∷ []) $
-        join ! $
+        move ! (3 ∷ 2 ∷ []) $ join ! $ move ! (3 ∷ 0 ∷ []) $ join ! $ move ! (3 ∷ 0 ∷ []) $ join ! $
+        move ! (3 ∷ 0 ∷ []) $ join ! $ move ! (3 ∷ 0 ∷ []) $ join ! $
         returns ! (look ! 62 refl) $ forget ! 21 refl $ forget ! 23 refl $ forget ! 25 refl $ forget ! 27 refl $ forget ! 29 refl $ forget ! 31 refl $ forget ! 33 refl $ forget ! 35 refl $ forget ! 37 refl $ forget ! 39 refl $ forget ! 2 refl $ forget ! 42 refl $ forget ! 44 refl $ forget ! 46 refl $ forget ! 48 refl $ forget ! 50 refl $ forget ! 52 refl $ forget ! 54 refl $ forget ! 56 refl $ forget ! 58 refl $ forget ! 60 refl $ forget ! 62 refl $
         move ! (62 ∷ 63 ∷ []) $ free1 ! $ move ! (60 ∷ 61 ∷ []) $ free1 ! $ move ! (58 ∷ 59 ∷ []) $ free1 ! $ move ! (56 ∷ 57 ∷ []) $ free1 ! $ move ! (54 ∷ 55 ∷ []) $ free1 ! $ move ! (52 ∷ 53 ∷ []) $ free1 ! $ move ! (50 ∷ 51 ∷ []) $ free1 ! $ move ! (48 ∷ 49 ∷ []) $ free1 ! $ move ! (46 ∷ 47 ∷ []) $ free1 ! $ move ! (44 ∷ 45 ∷ []) $ free1 ! $ move ! (42 ∷ 43 ∷ []) $ free1 ! $ move ! (2 ∷ 41 ∷ []) $ free1 ! $ move ! (38 ∷ 39 ∷ []) $ free1 ! $ move ! (36 ∷ 37 ∷ []) $ free1 ! $ move ! (34 ∷ 35 ∷ []) $ free1 ! $ move ! (32 ∷ 33 ∷ []) $ free1 ! $ move ! (30 ∷ 31 ∷ []) $ free1 ! $ move ! (28 ∷ 29 ∷ []) $ free1 ! $ move ! (26 ∷ 27 ∷ []) $ free1 ! $ move ! (24 ∷ 25 ∷ []) $ free1 ! $ move ! (22 ∷ 23 ∷ []) $ free1 ! $ move ! (20 ∷ 21 ∷ []) $ free1 ! $ free0 ! $
         keep ! (0 ∷ 15 ∷ 14 ∷ 13 ∷ 6 ∷ 5 ∷ 4 ∷ []) $
-        by ! (exits (answer (zs .1 .1 .1 .1 .1 .1 .1 .1 .0) r) (answered (zs .1 .1 .1 .1 .1 .1 .1 .1 .0) wr) (res-is (zs .1 .1 .1 .1 .1 .1 .1 .1 .0) r _ wr ys-is r-is) (zs .1 .1 .1 .1 .1 .1 .0) (zs .1 .1 .1 .1 .1 .1 .1 .0) (zs .1 .1 .1 .1 .1 .1 .1 .1 .1 .0) e zs-len6 zs-len7 zs-len9))))))))))))))
+        by ! (exits (answer (zs .1 .1 .1 .1 .1 .1 .1 .1 .0) r) (answered (zs .1 .1 .1 .1 .1 .1 .1 .1 .0) wr) (res-is (zs .1 .1 .1 .1 .1 .1 .1 .1 .0) r _ wr ys-is r-is) (zs .1 .1 .1 .1 .1 .1 .0) (zs .1 .1 .1 .1 .1 .1 .1 .0) (zs .1 .1 .1 .1 .1 .1 .1 .1 .1 .0) e zs-len6 zs-len7 zs-len9))))))))))))
 
     walk : ent 𝓤 (onEntry 𝓤 H A f.signature (κfiles, (κtab, (κstrs, (κtext, (κmp, (κbytes, tt)))))) (qfiles, (qtab, (qstrs, (qtext, (qmp, (qbytes, tt)))))) (xfiles γfiles files, (xtab γtab tab, (root, (xstrs γstrs strs, (kset, (lim, (xtext γtext text, (xmp γmp mp, (xbytes γbytes bytes, tt))))))))) (sfiles ∷ [], (stab ∷ [], (vint w64 root ∷ [], (sstrs ∷ [], (vint w64 kset ∷ [], (vint w64 lim ∷ [], (stext ∷ [], (smp ∷ [], (sbytes ∷ [], tt)))))))))) (WpFn 𝓤 H C Λ code.function (sfiles ∷ stab ∷ vint w64 root ∷ sstrs ∷ vint w64 kset ∷ vint w64 lim ∷ stext ∷ smp ∷ sbytes ∷ []) Post)
     walk =

@@ -14,7 +14,7 @@ use prog.Memory.{Memory}
 use prog.Routine.{Routine}
 use prog.Wp.{Heap, Calls, Loops, WpFn, Tables}
 use ghost.Atoms.{Atoms}
-use contract.Monad.{Fun, fact}
+use contract.Monad.{Fun}
 use contract.Running.{givenOf, tables, tablesOf}
 use types.Kit.{Given, ‵, raw, later, some, _⊛_, ⋆, _$_, _∵_, !, qed, by, move, keep, split, join, rewrite, use1, use2, pick, await, fsplit, fjoin, suffices, frame, done}
 use types.Part.{agg}
@@ -27,19 +27,20 @@ use denote.Laws.{Is, shows}
 use denote.Memory.{pointee}
 use denote.Builtin.{u8}
 use denote.Ref.{RefT, now}
-use denote.Slice.{sliceTy, sliceVal, ShrSlice, Room, slice-vals, shr-slice-tells, shr-slice-copy, shr-slice-lawful}
+use denote.Slice.{sliceTy, sliceVal, ShrSlice, Room, slice-vals, shr-slice-tells, shr-slice-lawful}
 use denote.Signature.{plain}
-use denote.Steps.{owned, peeks, heard, nothing, only}
+use denote.Steps.{owned, peeks, nothing, only}
 use denote.Triple.Entry.{onEntry}
 use denote.Triple.Spec.{Meets, tripleOf}
 use denote.Triple.Statement.{Contract, Triple}
 use denote.Triple.Call.{calls-at}
-use denote.Triple.Clauses.{ensured, lasts}
+use denote.Triple.Clauses.{lasts}
 use denote.Triple.Table.{entered, cited}
 use denote.Triple.Walked.{says, Stays, stay-none-slice, stay-none, walkOf, Walks, ends-at, walked, goes-none-slice, goes-none, walk-meets}
 use lib.Dec.{lit<}
 use Rattle.macros.specs.Looking.{Shows}
 use Rattle.records.specs.Records.{rowsOf}
+use Rattle.records.proofs.Calling.{doubles, answers}
 use Rattle.records.proofs.Rec.{Row}
 use Rattle.own.proofs.Local.{big-lit}
 use Rattle.own.proofs.Rows.{Rows, Rows-mir, Rows-vals, Rows-tells, Rows-lawful, Rows-makes, rows-long, lying, sliced, Lender, lent-out, lent-in}
@@ -106,76 +107,33 @@ module _ {M : Type 1} (𝓤 : URA M) (H : Heap 𝓤) (A : Atoms 𝓤) (W : Given
         assigns ! (addr ! (from ! (stop !))) (from ! (stop !)) (init ! 2 refl (tt, tt)) $
         assigns ! (agg ! (and-then ! (load ! (from ! (stop !)) (look ! 2 refl)) (and-then ! (big-lit ! (record { fits = lit< tt })) (no-more !)))) (from ! (stop !)) (init ! 0 refl (tt, (tt, (record { fits = lit< tt }, tt)))) $
         rewrite ! 0 (λ (m : ℕ). ‵ (fat fullShare (sliceTy (tyRef erased imm (pointee (Row .written)))) l₆ 0 (sliceVal (l₄, 0) m))) (sym xs-long) refl $
-        move ! (15 ∷ []) $
-        fsplit ! $
-        move ! (1 ∷ []) $
-        fsplit ! $
-        move ! (1 ∷ []) $
-        fsplit ! $
-        move ! (3 ∷ []) $
-        use1 W (‵ (ShrSlice (named 0) κbs u8 .own (xbs γbs bs) (sbs ∷ [])) ⊛ ‵ (ShrSlice (named 0) κbs u8 .own (xbs γbs bs) (sbs ∷ []))) (shr-slice-copy 𝓤 H A W (named 0) κbs u8 .twice (xbs γbs bs) (sbs ∷ [])) $
-        split ! $
-        move ! (2 ∷ []) $
-        use1 W (‵ (ShrSlice (named 1) κnm u8 .own (xnm γnm nm) (snm ∷ [])) ⊛ ‵ (ShrSlice (named 1) κnm u8 .own (xnm γnm nm) (snm ∷ []))) (shr-slice-copy 𝓤 H A W (named 1) κnm u8 .twice (xnm γnm nm) (snm ∷ [])) $
-        split ! $
+        move ! (15 ∷ []) $ fsplit ! $ move ! (1 ∷ []) $ fsplit ! $ move ! (1 ∷ []) $ fsplit ! $ move ! (3 ∷ []) $
+        doubles W ! (named 0) κbs u8 (xbs γbs bs) (sbs ∷ []) $ move ! (2 ∷ []) $
+        doubles W ! (named 1) κnm u8 (xnm γnm nm) (snm ∷ []) $
         lft-new ! tt (λ ν.
         move ! (11 ∷ 6 ∷ []) $
         use2 W (later (some (λ (δ : GName). ‵ (ShrSlice (named 1) (ν ∷ []) Row .own (lying l₄ δ xs) (sliced l₄ xs ∷ [])) ⊛ ‵ (Lender (ν ∷ []) xs l₄)))) (lent-out 𝓤 H A W (ν ∷ []) xs xs-long l₄ (named 1) vxs) $
         await ! tt $ pick ! (λ δ.
-        split ! $
-        move ! (21 ∷ []) $
-        split ! $
-        move ! (1 ∷ []) $
-        split ! $
-        nothing ! $
-        move ! (1 ∷ 0 ∷ []) $
-        join ! $
-        move ! (5 ∷ 0 ∷ []) $
-        join ! $
-        move ! (2 ∷ 0 ∷ []) $
-        join ! $
-        move ! (2 ∷ 4 ∷ []) $
-        join ! $
-        move ! (5 ∷ 0 ∷ []) $
-        join ! $
-        move ! (1 ∷ 0 ∷ []) $
-        join ! $
+        split ! $ move ! (21 ∷ []) $ split ! $ move ! (1 ∷ []) $ split ! $ nothing ! $ move ! (1 ∷ 0 ∷ []) $
+        join ! $ move ! (5 ∷ 0 ∷ []) $ join ! $ move ! (2 ∷ 0 ∷ []) $ join ! $ move ! (2 ∷ 4 ∷ []) $ join ! $
+        move ! (5 ∷ 0 ∷ []) $ join ! $ move ! (1 ∷ 0 ∷ []) $ join ! $
         use1 W (raw (To-look-up 𝓤 H A mem run .pre (((κbs, (ν ∷ [], (κnm, tt))), (qbs, (fullShare, (qnm, tt))), tt, (xbs γbs bs, (lying l₄ δ xs, (xnm γnm nm, tt))), (sbs ∷ [], (sliced l₄ xs ∷ [], (snm ∷ [], tt)))), tt))) (goes-look-up l₄ ν δ) $
         calls-at ! (fmOf 𝓤 H (W .laws) 𝓣) (To-look-up 𝓤 H A mem run) known-look-up (((κbs, (ν ∷ [], (κnm, tt))), (qbs, (fullShare, (qnm, tt))), tt, (xbs γbs bs, (lying l₄ δ xs, (xnm γnm nm, tt))), (sbs ∷ [], (sliced l₄ xs ∷ [], (snm ∷ [], tt)))), tt) (and-then ! (load ! (from ! (stop !)) (look ! 15 refl)) (and-then ! (load ! (from ! (stop !)) (look ! 6 refl)) (and-then ! (load ! (from ! (stop !)) (look ! 11 refl)) (no-more !)))) (λ wr.
-        use1 W (later (some (λ (got : RefT (List ℕ)). ((‵ (flft (κbs) qbs) ⊛ ‵ (flft (ν ∷ []) fullShare) ⊛ ‵ (flft (κnm) qnm) ⊛ ‵ ftrue) ⊛ ‵ ((ShrSlice (named 0) κbs u8) .own got (wr ∷ []))) ⊛ raw (ensured 𝓤 H A look-up.ended (look-up.clauses 𝓤 H A mem run) (κbs, (ν ∷ [], (κnm, tt))) (xbs γbs bs, (lying l₄ δ xs, (xnm γnm nm, tt))) tt got)))) (id⊢ 𝓤 _) $
-        await ! tt $ pick ! (λ r.
-        split ! $
-        move ! (1 ∷ []) $
-        use1 W (some (λ (zs : (Unit {0}) × ((Unit {0}) × ((Unit {0}) × (Unit {0})))). ‵ (lasts look-up.ended (κbs, (ν ∷ [], (κnm, tt))) (xbs γbs bs, (lying l₄ δ xs, (xnm γnm nm, tt))) zs) ⊛ raw (fact 𝓤 (Shows bs (rowsOf xs) nm (now r))))) (id⊢ 𝓤 _) $
-        pick ! (λ zs.
-        split ! $
-        move ! (1 ∷ []) $
-        heard ! (Shows bs (rowsOf xs) nm (now r)) (λ e.
-        fsplit ! $
-        move ! (1 ∷ []) $
-        fsplit ! $
-        move ! (1 ∷ []) $
-        fsplit ! $
-        move ! (1 ∷ []) $
-        move ! (4 ∷ []) $
-        split ! $
-        move ! (1 ∷ []) $
+        answers W ! tt (‵ (flft (κbs) qbs) ⊛ ‵ (flft (ν ∷ []) fullShare) ⊛ ‵ (flft (κnm) qnm) ⊛ ‵ ftrue) (ShrSlice (named 0) κbs u8) wr (λ (zs : (Unit {0}) × ((Unit {0}) × ((Unit {0}) × (Unit {0})))). lasts look-up.ended (κbs, (ν ∷ [], (κnm, tt))) (xbs γbs bs, (lying l₄ δ xs, (xnm γnm nm, tt))) zs) (λ r zs. Shows bs (rowsOf xs) nm (now r)) (id⊢ 𝓤 _) (λ r zs e.
+        fsplit ! $ move ! (1 ∷ []) $ fsplit ! $ move ! (1 ∷ []) $ fsplit ! $ move ! (1 ∷ []) $ move ! (4 ∷ []) $
+        split ! $ move ! (1 ∷ []) $
         peeks ! (ShrSlice (named 0) κbs u8) (Is (ShrSlice (named 0) κbs u8)) (shows 𝓤 H A (ShrSlice (named 0) κbs u8)) r (wr ∷ []) (λ r-is.
         land ! (from ! (stop !)) (init ! 22 refl (shr-slice-lawful 𝓤 H A W (named 0) κbs u8 .typed r _ r-is .0)) $
-        move ! (1 ∷ []) $
-        split ! $
-        move ! (1 ∷ []) $
-        split ! $
+        move ! (1 ∷ []) $ split ! $ move ! (1 ∷ []) $ split ! $
         lft-end ! tt $
         move ! (0 ∷ 9 ∷ []) $
         use2 W (later (‵ (fat fullShare Rows-mir l₄ 0 vxs))) (lent-in 𝓤 H A W (ν ∷ []) xs xs-long l₄) $
         await ! tt $
-        move ! (2 ∷ 1 ∷ []) $
-        join ! $
+        move ! (2 ∷ 1 ∷ []) $ join ! $
         returns ! (look ! 22 refl) $ forget ! 11 refl $ forget ! 13 refl $ forget ! 1 refl $ forget ! 16 refl $ forget ! 18 refl $ forget ! 20 refl $ forget ! 22 refl $
         move ! (22 ∷ 23 ∷ []) $ free1 ! $ move ! (20 ∷ 21 ∷ []) $ free1 ! $ move ! (18 ∷ 19 ∷ []) $ free1 ! $ move ! (16 ∷ 17 ∷ []) $ free1 ! $ move ! (1 ∷ 15 ∷ []) $ free1 ! $ move ! (12 ∷ 13 ∷ []) $ free1 ! $ move ! (10 ∷ 11 ∷ []) $ free1 ! $ free0 ! $
         keep ! (0 ∷ 8 ∷ 7 ∷ 1 ∷ []) $
-        by ! (exits r wr e)))))))))))))))
+        by ! (exits r wr e)))))))))))))
 
 module _ {M : Type 1} (𝓤 : URA M) (H : Heap 𝓤) (A : Atoms 𝓤) (W : Given 𝓤 H A) (mem : Memory → SProp 𝓤) (run : Routine → Fun 𝓤) where
   walks : (𝓣 : Tables 𝓤 H) → Triple 𝓤 (𝓣 .C #look-up) (To-look-up 𝓤 H A mem run) → Walks 𝓤 H A f.ended stayed (WpFn 𝓤 H (𝓣 .C) (𝓣 .Λ) code.function) (f.clauses 𝓤 H A mem run)

@@ -14,9 +14,9 @@ use prog.Memory.{Memory}
 use prog.Routine.{Routine}
 use prog.Wp.{Heap, Calls, Loops, WpFn, Tables}
 use ghost.Atoms.{Atoms}
-use contract.Monad.{Fun, fact}
+use contract.Monad.{Fun}
 use contract.Running.{givenOf, tables, tablesOf}
-use types.Kit.{Given, ‵, raw, later, some, _⊛_, ⋆, _$_, _∵_, !, qed, by, move, keep, split, join, rewrite, use1, use2, use3, pick, await, fsplit, fjoin, suffices, frame, done}
+use types.Kit.{Given, ‵, raw, later, some, _⊛_, ⋆, _$_, _∵_, !, qed, by, move, keep, split, join, rewrite, use2, use3, pick, await, fsplit, fjoin, suffices, frame, done}
 use types.Part.{agg}
 use types.Run.{look, init, forget, stop, from, load, addr, of-opd, and-then, no-more, assigns, land, returns, enter, alloc1, alloc0, params1, pass1, pass0, free1, free0}
 use types.Tokens.{lft-new, lft-end}
@@ -27,20 +27,21 @@ use denote.Laws.{Is, shows}
 use denote.Memory.{pointee}
 use denote.Builtin.{u8}
 use denote.Ref.{RefT, now}
-use denote.Slice.{sliceTy, sliceVal, ShrSlice, Room, slice-vals, shr-slice-tells, shr-slice-copy}
+use denote.Slice.{sliceTy, sliceVal, ShrSlice, Room, slice-vals, shr-slice-tells}
 use denote.Signature.{plain}
-use denote.Steps.{owned, peeks, heard, nothing, only}
+use denote.Steps.{owned, peeks, nothing, only}
 use denote.Triple.Entry.{onEntry}
 use denote.Triple.Spec.{Meets, tripleOf}
 use denote.Triple.Statement.{Contract, Triple}
 use denote.Triple.Call.{calls-at}
-use denote.Triple.Clauses.{ensured, lasts}
+use denote.Triple.Clauses.{lasts}
 use denote.Triple.Table.{entered, cited}
 use denote.Triple.Walked.{says, Stays, stay-none-slice, stay-none, walkOf, Walks, ends-at, walked, goes-none-slice, goes-none, walk-meets}
 use lib.Dec.{lit<}
 use Rattle.pass.specs.Answer.{Passes}
 use Rattle.pass.specs.declared.Answer.{Answer}
 use Rattle.records.specs.Records.{rowsOf}
+use Rattle.records.proofs.Calling.{doubles, answers}
 use Rattle.records.proofs.Rec.{Row, Ans, Ans-lawful}
 use Rattle.own.proofs.Local.{big-lit}
 use Rattle.own.proofs.Rows.{Rows, Rows-mir, Rows-vals, Rows-tells, Rows-lawful, Rows-makes, rows-long, lying, sliced, Lender, lent-out, lent-in}
@@ -101,60 +102,30 @@ module _ {M : Type 1} (𝓤 : URA M) (H : Heap 𝓤) (A : Atoms 𝓤) (W : Given
         assigns ! (addr ! (from ! (stop !))) (from ! (stop !)) (init ! 2 refl (tt, tt)) $
         assigns ! (agg ! (and-then ! (load ! (from ! (stop !)) (look ! 2 refl)) (and-then ! (big-lit ! (record { fits = lit< tt })) (no-more !)))) (from ! (stop !)) (init ! 0 refl (tt, (tt, (record { fits = lit< tt }, tt)))) $
         rewrite ! 0 (λ (m : ℕ). ‵ (fat fullShare (sliceTy (tyRef erased imm (pointee (Row .written)))) l₅ 0 (sliceVal (l₃, 0) m))) (sym xs-long) refl $
-        move ! (13 ∷ []) $
-        fsplit ! $
-        move ! (1 ∷ []) $
-        fsplit ! $
-        move ! (2 ∷ []) $
-        use1 W (‵ (ShrSlice (named 0) κbs u8 .own (xbs γbs bs) (sbs ∷ [])) ⊛ ‵ (ShrSlice (named 0) κbs u8 .own (xbs γbs bs) (sbs ∷ []))) (shr-slice-copy 𝓤 H A W (named 0) κbs u8 .twice (xbs γbs bs) (sbs ∷ [])) $
-        split ! $
+        move ! (13 ∷ []) $ fsplit ! $ move ! (1 ∷ []) $ fsplit ! $ move ! (2 ∷ []) $
+        doubles W ! (named 0) κbs u8 (xbs γbs bs) (sbs ∷ []) $
         lft-new ! tt (λ ν.
         move ! (9 ∷ 3 ∷ []) $
         use2 W (later (some (λ (δ : GName). ‵ (ShrSlice (named 1) (ν ∷ []) Row .own (lying l₃ δ xs) (sliced l₃ xs ∷ [])) ⊛ ‵ (Lender (ν ∷ []) xs l₃)))) (lent-out 𝓤 H A W (ν ∷ []) xs xs-long l₃ (named 1) vxs) $
         await ! tt $ pick ! (λ δ.
-        split ! $
-        move ! (17 ∷ []) $
-        split ! $
-        nothing ! $
-        move ! (5 ∷ 0 ∷ []) $
-        join ! $
-        move ! (1 ∷ 0 ∷ []) $
-        join ! $
-        move ! (0 ∷ 4 ∷ 2 ∷ []) $
+        split ! $ move ! (17 ∷ []) $ split ! $ nothing ! $ move ! (5 ∷ 0 ∷ []) $ join ! $ move ! (1 ∷ 0 ∷ []) $
+        join ! $ move ! (0 ∷ 4 ∷ 2 ∷ []) $
         use3 W (raw (To-pass 𝓤 H A mem run .pre (((κbs, (ν ∷ [], tt)), (qbs, (fullShare, tt)), tt, (xbs γbs bs, (lying l₃ δ xs, tt)), (sbs ∷ [], (sliced l₃ xs ∷ [], tt))), tt))) (goes-pass l₃ ν δ) $
         calls-at ! (fmOf 𝓤 H (W .laws) 𝓣) (To-pass 𝓤 H A mem run) known-pass (((κbs, (ν ∷ [], tt)), (qbs, (fullShare, tt)), tt, (xbs γbs bs, (lying l₃ δ xs, tt)), (sbs ∷ [], (sliced l₃ xs ∷ [], tt))), tt) (and-then ! (load ! (from ! (stop !)) (look ! 12 refl)) (and-then ! (load ! (from ! (stop !)) (look ! 5 refl)) (no-more !))) (λ wr.
-        use1 W (later (some (λ (got : Answer). ((‵ (flft (κbs) qbs) ⊛ ‵ (flft (ν ∷ []) fullShare) ⊛ ‵ ftrue) ⊛ ‵ (Ans .own got (wr ∷ []))) ⊛ raw (ensured 𝓤 H A pass.ended (pass.clauses 𝓤 H A mem run) (κbs, (ν ∷ [], tt)) (xbs γbs bs, (lying l₃ δ xs, tt)) tt got)))) (id⊢ 𝓤 _) $
-        await ! tt $ pick ! (λ r.
-        split ! $
-        move ! (1 ∷ []) $
-        use1 W (some (λ (zs : (Unit {0}) × ((Unit {0}) × (Unit {0}))). ‵ (lasts pass.ended (κbs, (ν ∷ [], tt)) (xbs γbs bs, (lying l₃ δ xs, tt)) zs) ⊛ raw (fact 𝓤 (Passes bs (rowsOf xs) r)))) (id⊢ 𝓤 _) $
-        pick ! (λ zs.
-        split ! $
-        move ! (1 ∷ []) $
-        heard ! (Passes bs (rowsOf xs) r) (λ e.
-        fsplit ! $
-        move ! (1 ∷ []) $
-        fsplit ! $
-        move ! (1 ∷ []) $
-        move ! (3 ∷ []) $
-        split ! $
-        move ! (1 ∷ []) $
+        answers W ! tt (‵ (flft (κbs) qbs) ⊛ ‵ (flft (ν ∷ []) fullShare) ⊛ ‵ ftrue) Ans wr (λ (zs : (Unit {0}) × ((Unit {0}) × (Unit {0}))). lasts pass.ended (κbs, (ν ∷ [], tt)) (xbs γbs bs, (lying l₃ δ xs, tt)) zs) (λ r zs. Passes bs (rowsOf xs) r) (id⊢ 𝓤 _) (λ r zs e.
+        fsplit ! $ move ! (1 ∷ []) $ fsplit ! $ move ! (1 ∷ []) $ move ! (3 ∷ []) $ split ! $ move ! (1 ∷ []) $
         peeks ! Ans (Is Ans) (shows 𝓤 H A Ans) r (wr ∷ []) (λ r-is.
         land ! (from ! (stop !)) (init ! 18 refl (Ans-lawful 𝓤 H A W .typed r _ r-is .0)) $
-        move ! (1 ∷ []) $
-        split ! $
-        move ! (1 ∷ []) $
-        split ! $
+        move ! (1 ∷ []) $ split ! $ move ! (1 ∷ []) $ split ! $
         lft-end ! tt $
         move ! (0 ∷ 8 ∷ []) $
         use2 W (later (‵ (fat fullShare Rows-mir l₃ 0 vxs))) (lent-in 𝓤 H A W (ν ∷ []) xs xs-long l₃) $
         await ! tt $
-        move ! (2 ∷ 1 ∷ []) $
-        join ! $
+        move ! (2 ∷ 1 ∷ []) $ join ! $
         returns ! (look ! 18 refl) $ forget ! 9 refl $ forget ! 11 refl $ forget ! 1 refl $ forget ! 14 refl $ forget ! 16 refl $ forget ! 18 refl $
         move ! (18 ∷ 19 ∷ []) $ free1 ! $ move ! (16 ∷ 17 ∷ []) $ free1 ! $ move ! (14 ∷ 15 ∷ []) $ free1 ! $ move ! (1 ∷ 13 ∷ []) $ free1 ! $ move ! (10 ∷ 11 ∷ []) $ free1 ! $ move ! (8 ∷ 9 ∷ []) $ free1 ! $ free0 ! $
         keep ! (0 ∷ 6 ∷ 1 ∷ []) $
-        by ! (exits r wr e))))))))))))))
+        by ! (exits r wr e))))))))))))
 
 module _ {M : Type 1} (𝓤 : URA M) (H : Heap 𝓤) (A : Atoms 𝓤) (W : Given 𝓤 H A) (mem : Memory → SProp 𝓤) (run : Routine → Fun 𝓤) where
   walks : (𝓣 : Tables 𝓤 H) → Triple 𝓤 (𝓣 .C #pass) (To-pass 𝓤 H A mem run) → Walks 𝓤 H A f.ended stayed (WpFn 𝓤 H (𝓣 .C) (𝓣 .Λ) code.function) (f.clauses 𝓤 H A mem run)

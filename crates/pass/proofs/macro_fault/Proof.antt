@@ -2,14 +2,13 @@
 -- Assumes nothing.
 use mathlib.Core.Bool.{true, false}
 use native.Mathlib.Omega.{arith}
-use Rattle.expand.proofs.Calling.{record-small}
 use Rattle.pass.proofs.Macros.{last-fits, last-tokens, last-small, macro-by, macro-bad}
 use borrow.Author.Needs.{needs}
 use Rattle.pass.proofs.macro_fault.Statement.{statement}
 use Rattle.pass.proofs.macro_fault.Tie as tie
 
 unfold-text-requires : tie.Need-unfold-text-requires
-unfold-text-requires c κs = (omega (arith, c .before .before .before .before .pre .0 .bytes-small, c .before .before .before .before .pre .2 .list-lent), c .before .before .before .before .pre .0 .bytes-small, record-small (c .before .read .ensures))
+unfold-text-requires c κs = (omega (arith, c .before .before .before .before .pre .0 .bytes-small, c .before .before .before .before .pre .2 .list-lent), c .before .before .before .before .pre .0 .bytes-small, c .before .read .ensures .small)
 
 text-fault-requires : tie.Need-text-fault-requires
 text-fault-requires c κs =

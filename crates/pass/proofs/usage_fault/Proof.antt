@@ -2,14 +2,13 @@
 -- Assumes nothing.
 use mathlib.Core.Bool.{false}
 use Rattle.pending.specs.Sources.{itemsFrom, lastOf}
-use Rattle.expand.proofs.Calling.{record-small}
 use Rattle.pass.proofs.Faults.{usage-missing, usage-good, usage-bad}
 use borrow.Author.Needs.{needs}
 use Rattle.pass.proofs.usage_fault.Statement.{statement}
 use Rattle.pass.proofs.usage_fault.Tie as tie
 
 accept-requires : tie.Need-accept-requires
-accept-requires c κs = (c .before .before .before .before .before .before .before .before .before .before .pre .0 .bytes-small, record-small (c .before .before .read .ensures), c .before .before .before .before .before .before .before .before .before .before .pre .1)
+accept-requires c κs = (c .before .before .before .before .before .before .before .before .before .before .pre .0 .bytes-small, c .before .before .read .ensures .small, c .before .before .before .before .before .before .before .before .before .before .pre .1)
 
 returns : tie.Need-returns
 returns c ms h =

@@ -6,14 +6,13 @@ use native.Mathlib.Omega.{arith}
 use Rattle.sets.specs.Sets.{elem}
 use Rattle.pending.specs.Pending.{Pending}
 use Rattle.passing.specs.Passing.{usesIn}
-use Rattle.expand.proofs.Calling.{record-small}
 use Rattle.pass.proofs.Macros.{last-tokens}
 use borrow.Author.Needs.{needs}
 use Rattle.pass.proofs.uses_of.Statement.{statement}
 use Rattle.pass.proofs.uses_of.Tie as tie
 
 unfold-text-requires : tie.Need-unfold-text-requires
-unfold-text-requires c κs = (omega (arith, c .before .before .before .pre .0 .bytes-small, c .before .before .before .pre .2), c .before .before .before .pre .0 .bytes-small, record-small (c .before .read .ensures))
+unfold-text-requires c κs = (omega (arith, c .before .before .before .pre .0 .bytes-small, c .before .before .before .pre .2), c .before .before .before .pre .0 .bytes-small, c .before .read .ensures .small)
 
 returns : tie.Need-returns
 returns c ms j h =

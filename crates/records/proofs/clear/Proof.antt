@@ -19,9 +19,9 @@ use prog.Memory.{Memory}
 use prog.Routine.{Routine}
 use prog.Wp.{Heap, Out, Env, afterSeq, afterBlock, afterTurn, Calls, Loops, Wp, atReturn, WpFn, Tables}
 use ghost.Atoms.{Atoms}
-use contract.Monad.{Fun, fact}
+use contract.Monad.{Fun}
 use contract.Running.{givenOf, tables, tablesOf}
-use types.Kit.{Given, Item, Sq, runs, anyQ, atRet, ‵, raw, later, some, _⊛_, ⋆, _$_, _∵_, !, qed, by, move, keep, split, join, rewrite, use1, use2, use3, pick, await, fsplit, fjoin, feqI, feqL, suffices, frame, done}
+use types.Kit.{Given, Item, Sq, runs, anyQ, atRet, ‵, raw, later, some, _⊛_, ⋆, _$_, _∵_, !, qed, by, move, keep, split, join, rewrite, use2, use3, pick, await, fsplit, fjoin, feqI, feqL, suffices, frame, done}
 use types.Part.{agg, whole, sub, look-in}
 use types.Run.{look, init, store, forget, stop, hop, fld, from, load, lit, unit-lit, addr, of-opd, and-then, no-more, bin, assigns, assigns-last, land, first, blocks, stays, leaves-loop, exec, again, loops, Below, returns, enter, alloc1, alloc0, params1, pass1, pass0, free1, free0}
 use types.Tokens.{lft-new, lft-end}
@@ -35,18 +35,19 @@ use denote.Builtin.{usize}
 use denote.Ref.{RefT, now}
 use denote.Slice.{sliceTy, sliceVal, MutSlice, Room, slice-vals, mut-slice-tells}
 use denote.Signature.{plain}
-use denote.Steps.{owned, peeks, heard, nothing}
+use denote.Steps.{owned, peeks, nothing}
 use denote.Triple.Entry.{onEntry}
 use denote.Triple.Spec.{Meets, tripleOf}
 use denote.Triple.Statement.{Contract, Triple}
 use denote.Triple.Call.{calls-at}
-use denote.Triple.Clauses.{ensured, lasts}
+use denote.Triple.Clauses.{lasts}
 use denote.Triple.Table.{entered, cited}
 use denote.Triple.Walked.{says, needs, Stays, stay-slice, stay-none, walkOf, Walks, ends-at, walked, goes-slice, goes-none, walk-meets}
 use Rattle.records.specs.declared.Record.{Record}
 use Rattle.records.specs.Records.{noRecord, removed}
 use Rattle.records.specs.Rows.{cleared}
 use Rattle.records.proofs.Again.{LentAgain, lends-as, back-as}
+use Rattle.records.proofs.Calling.{answers}
 use Rattle.records.proofs.Rec.{Row}
 use Rattle.records.proofs.Turns.{cleared-turn, cleared-none}
 use Rattle.records.proofs.remove as remove
@@ -137,39 +138,17 @@ module _ {M : Type 1} (𝓤 : URA M) (H : Heap 𝓤) (A : Atoms 𝓤) (W : Given
           move ! (1 ∷ 2 ∷ []) $
           use2 W (later (some (λ (δ : GName). ‵ (MutSlice (named 0) (ν ∷ []) Row .own (xys δ (i .1)) (sys ∷ [])) ⊛ ‵ (LentAgain Row κys (ν ∷ []) qys γys bys oys δ (i .1))))) (lends-as Row κys (ν ∷ []) qys γys bys oys 𝓤 H A W (named 0) (named 0) (i .1) (length ys) (i .2)) $
           await ! tt $ pick ! (λ δ.
-          split ! $
-          nothing ! $
-          move ! (3 ∷ 0 ∷ []) $
-          join ! $
-          move ! (0 ∷ 1 ∷ []) $
+          split ! $ nothing ! $ move ! (3 ∷ 0 ∷ []) $ join ! $ move ! (0 ∷ 1 ∷ []) $
           use2 W (raw (To-remove 𝓤 H A mem run .pre (((ν ∷ [], tt), (fullShare, tt), tt, (xys δ (i .1), ((i .0), ((i .0 - 1), tt))), (sys ∷ [], (vint w64 (i .0) ∷ [], (vint w64 (i .0 - 1) ∷ [], tt)))), tt))) (goes-remove ν δ (i .1) (i .0) (i .0 - 1) i-fits j-fits req) $
           calls-at ! (fmOf 𝓤 H (W .laws) 𝓣) (To-remove 𝓤 H A mem run) known-remove (((ν ∷ [], tt), (fullShare, tt), tt, (xys δ (i .1), ((i .0), ((i .0 - 1), tt))), (sys ∷ [], (vint w64 (i .0) ∷ [], (vint w64 (i .0 - 1) ∷ [], tt)))), tt) (and-then ! (load ! (from ! (stop !)) (look ! 2 refl)) (and-then ! (load ! (from ! (stop !)) (look ! 12 refl)) (and-then ! (load ! (from ! (stop !)) (look ! 10 refl)) (no-more !)))) (λ wu.
-          use1 W (later (some (λ (got : Unit {0}). ((‵ (flft (ν ∷ []) fullShare) ⊛ ‵ ftrue) ⊛ ‵ (Nothing .own got (wu ∷ []))) ⊛ raw (ensured 𝓤 H A remove.ended (remove.clauses 𝓤 H A mem run) (ν ∷ [], tt) (xys δ (i .1), ((i .0), ((i .0 - 1), tt))) tt got)))) (id⊢ 𝓤 _) $
-          await ! tt $ pick ! (λ u.
-          split ! $
-          move ! (1 ∷ []) $
-          use1 W (some (λ (ls : (List (Row .Denot)) × ((Unit {0}) × ((Unit {0}) × (Unit {0})))). ‵ (lasts remove.ended (ν ∷ [], tt) (xys δ (i .1), ((i .0), ((i .0 - 1), tt))) ls) ⊛ raw (fact 𝓤 (ls .0 ≡ removed (i .1) (i .0) (i .0 - 1) noRecord)))) (id⊢ 𝓤 _) $
-          pick ! (λ ls.
-          split ! $
-          move ! (1 ∷ []) $
-          heard ! (ls .0 ≡ removed (i .1) (i .0) (i .0 - 1) noRecord) (λ e.
-          fsplit ! $
-          fsplit ! $
-          move ! (1 ∷ []) $
+          answers W ! tt (‵ (flft (ν ∷ []) fullShare) ⊛ ‵ ftrue) Nothing wu (λ (ls : (List (Row .Denot)) × ((Unit {0}) × ((Unit {0}) × (Unit {0})))). lasts remove.ended (ν ∷ [], tt) (xys δ (i .1), ((i .0), ((i .0 - 1), tt))) ls) (λ u ls. ls .0 ≡ removed (i .1) (i .0) (i .0 - 1) noRecord) (id⊢ 𝓤 _) (λ u ls e.
+          fsplit ! $ fsplit ! $ move ! (1 ∷ []) $
           feqL ! (λ ls-len0.
-          move ! (1 ∷ []) $
-          fsplit ! $
-          move ! (1 ∷ []) $
-          fsplit ! $
-          move ! (1 ∷ []) $
-          move ! (4 ∷ []) $
-          split ! $
+          move ! (1 ∷ []) $ fsplit ! $ move ! (1 ∷ []) $ fsplit ! $ move ! (1 ∷ []) $ move ! (4 ∷ []) $ split ! $
           move ! (1 ∷ []) $
           peeks ! Nothing (Is Nothing) (shows 𝓤 H A Nothing) u (wu ∷ []) (λ u-is.
           land ! (from ! (stop !)) (init ! 11 refl (nothing-lawful 𝓤 H A W .typed u _ u-is .0)) $
-          move ! (1 ∷ []) $
-          split ! $
-          move ! (0 ∷ []) $
+          move ! (1 ∷ []) $ split ! $ move ! (0 ∷ []) $
           lft-end ! tt $
           move ! (0 ∷ 7 ∷ 6 ∷ []) $
           use3 W (later (‵ (MutSlice (named 0) κys Row .own (xys γys (ls .0)) (sys ∷ [])) ⊛ ‵ (flft κys qys))) (back-as Row κys (ν ∷ []) qys γys bys oys 𝓤 H A W (named 0) (named 0) (i .1) (length ys) (i .2) δ (ls .0) here ls-len0) $
@@ -178,7 +157,7 @@ module _ {M : Type 1} (𝓤 : URA M) (H : Heap 𝓤) (A : Atoms 𝓤) (W : Given
           assigns-last ! (of-opd ! (load ! (from ! (stop !)) (look ! 15 refl))) (from ! (stop !)) (store ! 17 refl (tt, record { fits = j-fits })) $
           forget ! 7 refl $ forget ! 9 refl $ forget ! 11 refl $ forget ! 13 refl $ forget ! 15 refl $
           keep ! (0 ∷ 1 ∷ 7 ∷ 8 ∷ 9 ∷ 10 ∷ 11 ∷ 12 ∷ 13 ∷ 14 ∷ 15 ∷ 16 ∷ 17 ∷ 18 ∷ 19 ∷ 20 ∷ 21 ∷ 22 ∷ 23 ∷ 24 ∷ []) $
-          again ! Nearer At i (i .0 - 1, ls .0, ls-len0 ∙ i .2, omega arith, ap (λ (us : List Record). cleared us (i .0 - 1)) e ∙ cleared-turn (i .1) (i .0) less ∙ i .4) (omega arith)))))))))
+          again ! Nearer At i (i .0 - 1, ls .0, ls-len0 ∙ i .2, omega arith, ap (λ (us : List Record). cleared us (i .0 - 1)) e ∙ cleared-turn (i .1) (i .0) less ∙ i .4) (omega arith)))))))
       turns i false test =
           let over : i .0 ≤ 0 = nltb→le 0 (i .0) (subst (λ (y : Bool). T (not y)) (sym test) tt) in
           let last : i .0 ≡ 0 = omega arith in
@@ -194,10 +173,7 @@ module _ {M : Type 1} (𝓤 : URA M) (H : Heap 𝓤) (A : Atoms 𝓤) (W : Given
     begun : (l₀ l₁ l₂ l₃ l₄ l₅ l₆ l₇ l₈ : ℕ) → Sq W (‵ (froom (sliceTy (tyRef erased mut (pointee (Row .written)))) l₈ 0) ∷ ‵ (fdies (sliceTy (tyRef erased mut (pointee (Row .written)))) l₈) ∷ ‵ (froom (tyRef erased mut (pointee (Row .written))) l₇ 0) ∷ ‵ (fdies (tyRef erased mut (pointee (Row .written))) l₇) ∷ ‵ (froom tyUnit l₆ 0) ∷ ‵ (fdies tyUnit l₆) ∷ ‵ (froom tyBool l₅ 0) ∷ ‵ (fdies tyBool l₅) ∷ ‵ (froom word l₄ 0) ∷ ‵ (fdies word l₄) ∷ ‵ (froom word l₃ 0) ∷ ‵ (fdies word l₃) ∷ ‵ (fat fullShare word l₂ 0 (vint w64 n)) ∷ ‵ (fdies word l₂) ∷ ‵ (fat fullShare slice l₁ 0 sys) ∷ ‵ (fdies slice l₁) ∷ ‵ (froom tyUnit l₀ 0) ∷ ‵ (fdies tyUnit l₀) ∷ (‵ (flft κys qys) ⊛ ‵ ftrue) ∷ ‵ (owns (MutSlice (named 0) κys Row ∷ usize ∷ []) (xys γys ys, (n, tt)) (sys ∷ [], (vint w64 n ∷ [], tt))) ∷ []) (runs C Λ (En l₀ l₁ l₂ l₃ l₄ l₅ l₆ l₇ l₈) body.t-1 (atRet (En l₀ l₁ l₂ l₃ l₄ l₅ l₆ l₇ l₈) Post))
     begun l₀ l₁ l₂ l₃ l₄ l₅ l₆ l₇ l₈ =
         assigns ! (of-opd ! (load ! (from ! (stop !)) (look ! 12 refl))) (from ! (stop !)) (init ! 10 refl (tt, record { fits = n-fits })) $
-        move ! (19 ∷ []) $
-        fsplit ! $
-        move ! (20 ∷ []) $
-        split ! $
+        move ! (19 ∷ []) $ fsplit ! $ move ! (20 ∷ []) $ split ! $
         keep ! (2 ∷ 0 ∷ 4 ∷ 5 ∷ 6 ∷ 7 ∷ 8 ∷ 9 ∷ 10 ∷ 11 ∷ 12 ∷ 13 ∷ 14 ∷ 15 ∷ 16 ∷ 17 ∷ 18 ∷ 19 ∷ 20 ∷ 21 ∷ []) $
         first ! $ blocks ! $ loops ! 𝓣 Nearer Nearer-wf (At l₀ l₁ l₂ l₃ l₄ l₅ l₆ l₇ l₈) (λ i. turns l₀ l₁ l₂ l₃ l₄ l₅ l₆ l₇ l₈ i (ltb 0 (i .0)) refl) (n, ys, refl, omega arith, refl)
 

@@ -19,7 +19,7 @@ use prog.Memory.{Memory}
 use prog.Routine.{Routine}
 use prog.Wp.{Heap, Out, Env, afterSeq, afterBlock, afterTurn, Calls, Loops, Wp, atReturn, WpFn, Tables}
 use ghost.Atoms.{Atoms}
-use contract.Monad.{Fun, fact}
+use contract.Monad.{Fun}
 use contract.Running.{givenOf, tables, tablesOf}
 use types.Kit.{Given, Item, Sq, runs, anyQ, atRet, ‵, raw, later, some, _⊛_, ⋆, _$_, _∵_, !, qed, by, move, keep, split, join, rewrite, use1, use2, use3, pick, await, fsplit, fjoin, feqI, feqL, suffices, frame, done}
 use types.Part.{agg, whole, sub, look-in}
@@ -35,12 +35,12 @@ use denote.Builtin.{usize}
 use denote.Ref.{RefT, now}
 use denote.Slice.{sliceTy, sliceVal, MutSlice, Room, slice-vals, mut-slice-tells}
 use denote.Signature.{plain}
-use denote.Steps.{owned, peeks, heard, nothing}
+use denote.Steps.{owned, peeks, nothing}
 use denote.Triple.Entry.{onEntry}
 use denote.Triple.Spec.{Meets, tripleOf}
 use denote.Triple.Statement.{Contract, Triple}
 use denote.Triple.Call.{calls-at}
-use denote.Triple.Clauses.{ensured, lasts}
+use denote.Triple.Clauses.{lasts}
 use denote.Triple.Table.{entered, cited}
 use denote.Triple.Walked.{says, needs, Stays, stay-slice, stay-none, walkOf, Walks, ends-at, walked, goes-slice, goes-none, walk-meets}
 use lib.Dec.{lit<}
@@ -50,6 +50,7 @@ use Rattle.records.specs.Rows.{recordAt, filled}
 use Rattle.records.proofs.Record.Laws.{mir as Cell}
 use Rattle.records.proofs.Table.Laws.{mir as Tab-mir}
 use Rattle.records.proofs.Again.{LentAgain, lends-as, back-as}
+use Rattle.records.proofs.Calling.{answers}
 use Rattle.records.proofs.Rec.{Row, lawful, makes, Tab, Tab-val, Tab-vals, Tab-tells, Tab-lawful, Tab-makes, tab-length}
 use Rattle.records.proofs.Turns.{filled-first, filled-turn}
 use Rattle.records.proofs.record_at as record-at
@@ -152,26 +153,11 @@ module _ {M : Type 1} (𝓤 : URA M) (H : Heap 𝓤) (A : Atoms 𝓤) (W : Given
           assigns ! (bin ! (load ! (from ! (stop !)) (look ! 12 refl)) (load ! (from ! (stop !)) (look ! 14 refl)) tt) (from ! (stop !)) (init ! 8 refl (tt, tt)) $
           rewrite ! 8 (λ (y : Bool). ‵ (fat fullShare tyBool l₆ 0 (vbool y))) (test) refl $
           stays ! (load ! (from ! (stop !)) (look ! 8 refl)) $
-          nothing ! $
-          move ! (0 ∷ []) $
+          nothing ! $ move ! (0 ∷ []) $
           use1 W (raw (To-record-at 𝓤 H A mem run .pre ((tt, tt, tt, (t, ((i .0), tt)), (Tab-val t ∷ [], (vint w64 (i .0) ∷ [], tt))), tt))) (goes-record-at (i .0) i-fits low) $
           calls-at ! (fmOf 𝓤 H (W .laws) 𝓣) (To-record-at 𝓤 H A mem run) known-record-at ((tt, tt, tt, (t, ((i .0), tt)), (Tab-val t ∷ [], (vint w64 (i .0) ∷ [], tt))), tt) (and-then ! (load ! (from ! (stop !)) (look ! 17 refl)) (and-then ! (load ! (from ! (stop !)) (look ! 13 refl)) (no-more !))) (λ wr.
-          use1 W (later (some (λ (got : Record). ((‵ ftrue) ⊛ ‵ (Row .own got (wr ∷ []))) ⊛ raw (ensured 𝓤 H A record-at.ended (record-at.clauses 𝓤 H A mem run) tt (t, ((i .0), tt)) tt got)))) (id⊢ 𝓤 _) $
-          await ! tt $ pick ! (λ r.
-          split ! $
-          move ! (1 ∷ []) $
-          use1 W (some (λ (ks : (Unit {0}) × ((Unit {0}) × (Unit {0}))). ‵ (lasts record-at.ended tt (t, ((i .0), tt)) ks) ⊛ raw (fact 𝓤 (r ≡ recordAt t (i .0))))) (id⊢ 𝓤 _) $
-          pick ! (λ ks.
-          split ! $
-          move ! (1 ∷ []) $
-          heard ! (r ≡ recordAt t (i .0)) (λ e₁.
-          fsplit ! $
-          move ! (1 ∷ []) $
-          fsplit ! $
-          move ! (1 ∷ []) $
-          move ! (3 ∷ []) $
-          split ! $
-          move ! (1 ∷ []) $
+          answers W ! tt (‵ ftrue) Row wr (λ (ks : (Unit {0}) × ((Unit {0}) × (Unit {0}))). lasts record-at.ended tt (t, ((i .0), tt)) ks) (λ r ks. r ≡ recordAt t (i .0)) (id⊢ 𝓤 _) (λ r ks e₁.
+          fsplit ! $ move ! (1 ∷ []) $ fsplit ! $ move ! (1 ∷ []) $ move ! (3 ∷ []) $ split ! $ move ! (1 ∷ []) $
           peeks ! Row (Is Row) (shows 𝓤 H A Row) r (wr ∷ []) (λ r-is.
           land ! (from ! (stop !)) (init ! 15 refl (lawful 𝓤 H A W .typed r _ r-is .0)) $
           assigns ! (addr ! (from ! (fld ! refl (hop ! (look-in ! 23 (sub ! 0 refl (whole !))) (stop !))))) (from ! (stop !)) (init ! 9 refl (tt, tt)) $
@@ -180,41 +166,17 @@ module _ {M : Type 1} (𝓤 : URA M) (H : Heap 𝓤) (A : Atoms 𝓤) (W : Given
           move ! (6 ∷ 7 ∷ []) $
           use2 W (later (some (λ (δ : GName). ‵ (MutSlice (named 0) (ν ∷ []) Row .own (xys δ (i .1)) (sys ∷ [])) ⊛ ‵ (LentAgain Row κys (ν ∷ []) qys γys bys oys δ (i .1))))) (lends-as Row κys (ν ∷ []) qys γys bys oys 𝓤 H A W (named 0) (named 0) (i .1) (length ys) (i .2)) $
           await ! tt $ pick ! (λ δ.
-          split ! $
-          nothing ! $
-          move ! (3 ∷ 0 ∷ []) $
-          join ! $
-          move ! (0 ∷ 1 ∷ []) $
+          split ! $ nothing ! $ move ! (3 ∷ 0 ∷ []) $ join ! $ move ! (0 ∷ 1 ∷ []) $
           use2 W (raw (To-insert 𝓤 H A mem run .pre (((ν ∷ [], tt), (fullShare, tt), tt, (xys δ (i .1), ((i .0), ((i .0), (r, tt)))), (sys ∷ [], (vint w64 (i .0) ∷ [], (vint w64 (i .0) ∷ [], (wr ∷ [], tt))))), tt))) (goes-insert ν δ (i .1) (i .0) i-fits r wr r-is req) $
           calls-at ! (fmOf 𝓤 H (W .laws) 𝓣) (To-insert 𝓤 H A mem run) known-insert (((ν ∷ [], tt), (fullShare, tt), tt, (xys δ (i .1), ((i .0), ((i .0), (r, tt)))), (sys ∷ [], (vint w64 (i .0) ∷ [], (vint w64 (i .0) ∷ [], (wr ∷ [], tt))))), tt) (and-then ! (load ! (from ! (stop !)) (look ! 7 refl)) (and-then ! (load ! (from ! (stop !)) (look ! 17 refl)) (and-then ! (load ! (from ! (stop !)) (look ! 17 refl)) (and-then ! (load ! (from ! (stop !)) (look ! 15 refl)) (no-more !))))) (λ wu.
-          use1 W (later (some (λ (got : Unit {0}). ((‵ (flft (ν ∷ []) fullShare) ⊛ ‵ ftrue) ⊛ ‵ (Nothing .own got (wu ∷ []))) ⊛ raw (ensured 𝓤 H A insert.ended (insert.clauses 𝓤 H A mem run) (ν ∷ [], tt) (xys δ (i .1), ((i .0), ((i .0), (r, tt)))) tt got)))) (id⊢ 𝓤 _) $
-          await ! tt $ pick ! (λ u.
-          split ! $
-          move ! (1 ∷ []) $
-          use1 W (some (λ (ls : (List (Row .Denot)) × ((Unit {0}) × ((Unit {0}) × ((Unit {0}) × (Unit {0}))))). ‵ (lasts insert.ended (ν ∷ [], tt) (xys δ (i .1), ((i .0), ((i .0), (r, tt)))) ls) ⊛ raw (fact 𝓤 (ls .0 ≡ inserted (i .1) (i .0) (i .0) r)))) (id⊢ 𝓤 _) $
-          pick ! (λ ls.
-          split ! $
-          move ! (1 ∷ []) $
-          heard ! (ls .0 ≡ inserted (i .1) (i .0) (i .0) r) (λ e.
-          fsplit ! $
-          fsplit ! $
-          move ! (1 ∷ []) $
+          answers W ! tt (‵ (flft (ν ∷ []) fullShare) ⊛ ‵ ftrue) Nothing wu (λ (ls : (List (Row .Denot)) × ((Unit {0}) × ((Unit {0}) × ((Unit {0}) × (Unit {0}))))). lasts insert.ended (ν ∷ [], tt) (xys δ (i .1), ((i .0), ((i .0), (r, tt)))) ls) (λ u ls. ls .0 ≡ inserted (i .1) (i .0) (i .0) r) (id⊢ 𝓤 _) (λ u ls e.
+          fsplit ! $ fsplit ! $ move ! (1 ∷ []) $
           feqL ! (λ ls-len0.
-          move ! (1 ∷ []) $
-          fsplit ! $
-          move ! (1 ∷ []) $
-          fsplit ! $
-          move ! (1 ∷ []) $
-          fsplit ! $
-          move ! (1 ∷ []) $
-          move ! (5 ∷ []) $
-          split ! $
-          move ! (1 ∷ []) $
+          move ! (1 ∷ []) $ fsplit ! $ move ! (1 ∷ []) $ fsplit ! $ move ! (1 ∷ []) $ fsplit ! $ move ! (1 ∷ []) $
+          move ! (5 ∷ []) $ split ! $ move ! (1 ∷ []) $
           peeks ! Nothing (Is Nothing) (shows 𝓤 H A Nothing) u (wu ∷ []) (λ u-is.
           land ! (from ! (stop !)) (init ! 17 refl (nothing-lawful 𝓤 H A W .typed u _ u-is .0)) $
-          move ! (1 ∷ []) $
-          split ! $
-          move ! (0 ∷ []) $
+          move ! (1 ∷ []) $ split ! $ move ! (0 ∷ []) $
           lft-end ! tt $
           move ! (0 ∷ 8 ∷ 7 ∷ []) $
           use3 W (later (‵ (MutSlice (named 0) κys Row .own (xys γys (ls .0)) (sys ∷ [])) ⊛ ‵ (flft κys qys))) (back-as Row κys (ν ∷ []) qys γys bys oys 𝓤 H A W (named 0) (named 0) (i .1) (length ys) (i .2) δ (ls .0) here ls-len0) $
@@ -223,7 +185,7 @@ module _ {M : Type 1} (𝓤 : URA M) (H : Heap 𝓤) (A : Atoms 𝓤) (W : Given
           assigns-last ! (bin ! (load ! (from ! (stop !)) (look ! 23 refl)) (lit ! tt) (record { fits = j-fits })) (from ! (stop !)) (store ! 23 refl (tt, record { fits = j-fits })) $
           forget ! 13 refl $ forget ! 15 refl $ forget ! 17 refl $ forget ! 19 refl $ forget ! 21 refl $
           keep ! (0 ∷ 1 ∷ 13 ∷ 14 ∷ 15 ∷ 16 ∷ 17 ∷ 18 ∷ 19 ∷ 20 ∷ 21 ∷ 22 ∷ 23 ∷ 24 ∷ 25 ∷ 26 ∷ 27 ∷ 28 ∷ 29 ∷ 30 ∷ 31 ∷ 32 ∷ []) $
-          again ! Nearer At i (i .0 + 1, ls .0, ls-len0 ∙ i .2, omega arith, e ∙ ap (inserted (i .1) (i .0) (i .0)) e₁ ∙ ap (λ (us : List Record). inserted us (i .0) (i .0) (recordAt t (i .0))) (i .4) ∙ filled-turn ys t (i .0)) (omega arith))))))))))))))
+          again ! Nearer At i (i .0 + 1, ls .0, ls-len0 ∙ i .2, omega arith, e ∙ ap (inserted (i .1) (i .0) (i .0)) e₁ ∙ ap (λ (us : List Record). inserted us (i .0) (i .0) (recordAt t (i .0))) (i .4) ∙ filled-turn ys t (i .0)) (omega arith))))))))))
       turns i false test =
           let over : t .length ≤ i .0 = nltb→le (i .0) (t .length) (subst (λ (y : Bool). T (not y)) (sym test) tt) in
           let top : i .0 ≤ t .length = i .3 in
@@ -241,10 +203,7 @@ module _ {M : Type 1} (𝓤 : URA M) (H : Heap 𝓤) (A : Atoms 𝓤) (W : Given
     begun l₀ l₁ l₂ l₃ l₄ l₅ l₆ l₇ l₈ l₉ =
         assigns ! (of-opd ! (load ! (from ! (fld ! refl (stop !))) (look-in ! 14 (sub ! 1 refl (whole !))))) (from ! (stop !)) (init ! 12 refl (tt, record { fits = n-fits })) $
         assigns ! (of-opd ! (lit ! tt)) (from ! (stop !)) (init ! 10 refl (tt, record { fits = lit< tt })) $
-        move ! (21 ∷ []) $
-        fsplit ! $
-        move ! (22 ∷ []) $
-        split ! $
+        move ! (21 ∷ []) $ fsplit ! $ move ! (22 ∷ []) $ split ! $
         keep ! (2 ∷ 0 ∷ 4 ∷ 5 ∷ 6 ∷ 7 ∷ 8 ∷ 9 ∷ 10 ∷ 11 ∷ 12 ∷ 13 ∷ 14 ∷ 15 ∷ 16 ∷ 17 ∷ 18 ∷ 19 ∷ 20 ∷ 21 ∷ 22 ∷ 23 ∷ []) $
         first ! $ blocks ! $ loops ! 𝓣 Nearer Nearer-wf (At l₀ l₁ l₂ l₃ l₄ l₅ l₆ l₇ l₈ l₉) (λ i. turns l₀ l₁ l₂ l₃ l₄ l₅ l₆ l₇ l₈ l₉ i (ltb (i .0) (t .length)) refl) (0, ys, refl, omega arith, filled-first ys t)
 

@@ -15,7 +15,7 @@ use prog.Memory.{Memory}
 use prog.Routine.{Routine}
 use prog.Wp.{Heap, Calls, Loops, WpFn, Tables}
 use ghost.Atoms.{Atoms}
-use contract.Monad.{Fun, fact}
+use contract.Monad.{Fun}
 use contract.Running.{givenOf, tables, tablesOf}
 use types.Kit.{Given, Sq, runs, atRet, ‵, raw, later, some, _⊛_, ⋆, _$_, _∵_, !, qed, by, move, keep, split, join, rewrite, use1, use2, use3, pick, await, fsplit, fjoin, feqL, suffices, frame, done}
 use types.Part.{agg, whole, sub, look-in}
@@ -29,14 +29,14 @@ use denote.Memory.{pointee}
 use denote.Plain.{Nothing, nothing-lawful, uint-makes, uint-vals, uint-tells}
 use denote.Builtin.{u8, u32, usize}
 use denote.Ref.{RefT, now}
-use denote.Slice.{sliceTy, sliceVal, MutSlice, ShrSlice, Room, finally, slice-vals, mut-slice-tells, shr-slice-tells, shr-slice-copy}
+use denote.Slice.{sliceTy, sliceVal, MutSlice, ShrSlice, Room, finally, slice-vals, mut-slice-tells, shr-slice-tells}
 use denote.Signature.{plain}
-use denote.Steps.{owned, peeks, heard, nothing, only}
+use denote.Steps.{owned, peeks, nothing, only}
 use denote.Triple.Entry.{onEntry}
 use denote.Triple.Spec.{Meets, tripleOf}
 use denote.Triple.Statement.{Contract, Triple}
 use denote.Triple.Call.{calls-at}
-use denote.Triple.Clauses.{ensured, lasts}
+use denote.Triple.Clauses.{lasts}
 use denote.Triple.Table.{entered, cited}
 use denote.Triple.Walked.{says, Stays, gave-slice, stay-none-slice, stay-none, walkOf, Walks, ends-at, walked, goes-gave-slice, goes-none-slice, goes-none, walk-meets}
 use denote.Builtin.{ArrayOf}
@@ -50,6 +50,7 @@ use Rattle.records.specs.Rows.{cleared, filled, Keeps}
 use Rattle.records.proofs.Kept.Laws.{mir as KepCell}
 use Rattle.records.proofs.Table.Laws.{mir as TabCell}
 use Rattle.records.proofs.Again.{LentAgain, lends-again, comes-back}
+use Rattle.records.proofs.Calling.{doubles, answers}
 use Rattle.records.proofs.Rec.{Row, Tab, Tab-val, Tab-vals, Tab-lawful, Tab-makes, Kep, Kep-tells, Kep-lawful, Fla, Fla-val, Fla-vals, Fla-lawful, Fla-makes, Five, Two, kept-table, kept-clears, kept-answer}
 use Rattle.records.proofs.Filling.{clears-in, fills-in, fills-few, flattens-back}
 use Rattle.records.proofs.flatten_rows as flatten-rows
@@ -167,117 +168,29 @@ module _ {M : Type 1} (𝓤 : URA M) (H : Heap 𝓤) (A : Atoms 𝓤) (W : Given
         assigns ! (agg ! (and-then ! (load ! (from ! (stop !)) (look ! 16 refl)) (and-then ! (load ! (from ! (fld ! refl (stop !))) (look-in ! 34 (sub ! 1 refl (whole !)))) (no-more !)))) (from ! (stop !)) (init ! 14 refl (tt, (tt, (record { fits = mp-room .0 }, tt)))) $
         assigns ! (addr ! (from ! (fld ! refl (hop ! (look-in ! 30 (sub ! 0 refl (whole !))) (stop !))))) (from ! (stop !)) (init ! 12 refl (tt, tt)) $
         assigns ! (agg ! (and-then ! (load ! (from ! (stop !)) (look ! 12 refl)) (and-then ! (load ! (from ! (fld ! refl (stop !))) (look-in ! 30 (sub ! 1 refl (whole !)))) (no-more !)))) (from ! (stop !)) (init ! 10 refl (tt, (tt, (record { fits = bytes-room .0 }, tt)))) $
-        move ! (53 ∷ []) $
-        fsplit ! $
-        move ! (1 ∷ []) $
-        fsplit ! $
-        move ! (1 ∷ []) $
-        fsplit ! $
-        move ! (1 ∷ []) $
-        fsplit ! $
-        move ! (1 ∷ []) $
-        fsplit ! $
-        move ! (1 ∷ []) $
-        fsplit ! $
-        move ! (1 ∷ []) $
-        fsplit ! $
-        move ! (1 ∷ []) $
-        fsplit ! $
-        move ! (1 ∷ []) $
-        fsplit ! $
-        move ! (1 ∷ []) $
-        fsplit ! $
-        move ! (10 ∷ []) $
-        use1 W (‵ (ShrSlice (named 0) κfiles u8 .own (xfiles γfiles files) (sfiles ∷ [])) ⊛ ‵ (ShrSlice (named 0) κfiles u8 .own (xfiles γfiles files) (sfiles ∷ []))) (shr-slice-copy 𝓤 H A W (named 0) κfiles u8 .twice (xfiles γfiles files) (sfiles ∷ [])) $
-        split ! $
-        move ! (11 ∷ []) $
-        use1 W (‵ (ShrSlice (named 1) κtab Five .own (xtab γtab tab) (stab ∷ [])) ⊛ ‵ (ShrSlice (named 1) κtab Five .own (xtab γtab tab) (stab ∷ []))) (shr-slice-copy 𝓤 H A W (named 1) κtab Five .twice (xtab γtab tab) (stab ∷ [])) $
-        split ! $
-        move ! (11 ∷ []) $
-        use1 W (‵ (ShrSlice (named 2) κstrs Two .own (xstrs γstrs strs) (sstrs ∷ [])) ⊛ ‵ (ShrSlice (named 2) κstrs Two .own (xstrs γstrs strs) (sstrs ∷ []))) (shr-slice-copy 𝓤 H A W (named 2) κstrs Two .twice (xstrs γstrs strs) (sstrs ∷ [])) $
-        split ! $
-        move ! (66 ∷ []) $
-        split ! $
-        move ! (1 ∷ []) $
-        split ! $
-        move ! (1 ∷ []) $
-        split ! $
-        move ! (1 ∷ []) $
-        split ! $
-        move ! (1 ∷ []) $
-        split ! $
-        move ! (1 ∷ []) $
-        split ! $
-        move ! (1 ∷ []) $
-        split ! $
-        nothing ! $
-        move ! (1 ∷ 0 ∷ []) $
-        join ! $
-        move ! (3 ∷ 0 ∷ []) $
-        join ! $
-        move ! (3 ∷ 0 ∷ []) $
-        join ! $
-        move ! (3 ∷ 0 ∷ []) $
-        join ! $
-        move ! (3 ∷ 0 ∷ []) $
-        join ! $
-        move ! (3 ∷ 0 ∷ []) $
-        join ! $
-        move ! (12 ∷ 9 ∷ []) $
-        join ! $
-        move ! (12 ∷ 0 ∷ []) $
-        join ! $
-        move ! (4 ∷ 0 ∷ []) $
-        join ! $
-        move ! (5 ∷ 0 ∷ []) $
-        join ! $
-        move ! (6 ∷ 0 ∷ []) $
-        join ! $
-        move ! (1 ∷ 0 ∷ []) $
-        join ! $
+        move ! (53 ∷ []) $ fsplit ! $ move ! (1 ∷ []) $ fsplit ! $ move ! (1 ∷ []) $ fsplit ! $ move ! (1 ∷ []) $
+        fsplit ! $ move ! (1 ∷ []) $ fsplit ! $ move ! (1 ∷ []) $ fsplit ! $ move ! (1 ∷ []) $ fsplit ! $
+        move ! (1 ∷ []) $ fsplit ! $ move ! (1 ∷ []) $ fsplit ! $ move ! (1 ∷ []) $ fsplit ! $ move ! (10 ∷ []) $
+        doubles W ! (named 0) κfiles u8 (xfiles γfiles files) (sfiles ∷ []) $ move ! (11 ∷ []) $
+        doubles W ! (named 1) κtab Five (xtab γtab tab) (stab ∷ []) $ move ! (11 ∷ []) $
+        doubles W ! (named 2) κstrs Two (xstrs γstrs strs) (sstrs ∷ []) $ move ! (66 ∷ []) $ split ! $ move ! (1 ∷ []) $ split ! $ move ! (1 ∷ []) $ split ! $
+        move ! (1 ∷ []) $ split ! $ move ! (1 ∷ []) $ split ! $ move ! (1 ∷ []) $ split ! $ move ! (1 ∷ []) $
+        split ! $ nothing ! $ move ! (1 ∷ 0 ∷ []) $ join ! $ move ! (3 ∷ 0 ∷ []) $ join ! $ move ! (3 ∷ 0 ∷ []) $
+        join ! $ move ! (3 ∷ 0 ∷ []) $ join ! $ move ! (3 ∷ 0 ∷ []) $ join ! $ move ! (3 ∷ 0 ∷ []) $ join ! $
+        move ! (12 ∷ 9 ∷ []) $ join ! $ move ! (12 ∷ 0 ∷ []) $ join ! $ move ! (4 ∷ 0 ∷ []) $ join ! $
+        move ! (5 ∷ 0 ∷ []) $ join ! $ move ! (6 ∷ 0 ∷ []) $ join ! $ move ! (1 ∷ 0 ∷ []) $ join ! $
         use1 W (raw (To-flatten-rows 𝓤 H A mem run .pre (((κfiles, (κtab, (κstrs, (κtext, (κmp, (κbytes, tt)))))), (qfiles, (qtab, (qstrs, (qtext, (qmp, (qbytes, tt)))))), tt, (xfiles γfiles files, (xtab γtab tab, (root, (xstrs γstrs strs, (kset, (lim, (xtext γtext text, (xmp γmp mp, ((length ys), (xbytes γbytes bytes, tt)))))))))), (sfiles ∷ [], (stab ∷ [], (vint w64 root ∷ [], (sstrs ∷ [], (vint w64 kset ∷ [], (vint w64 lim ∷ [], (stext ∷ [], (smp ∷ [], (vint w64 (length ys) ∷ [], (sbytes ∷ [], tt))))))))))), tt))) (goes-flatten-rows) $
         calls-at ! (fmOf 𝓤 H (W .laws) 𝓣) (To-flatten-rows 𝓤 H A mem run) known-flatten-rows (((κfiles, (κtab, (κstrs, (κtext, (κmp, (κbytes, tt)))))), (qfiles, (qtab, (qstrs, (qtext, (qmp, (qbytes, tt)))))), tt, (xfiles γfiles files, (xtab γtab tab, (root, (xstrs γstrs strs, (kset, (lim, (xtext γtext text, (xmp γmp mp, ((length ys), (xbytes γbytes bytes, tt)))))))))), (sfiles ∷ [], (stab ∷ [], (vint w64 root ∷ [], (sstrs ∷ [], (vint w64 kset ∷ [], (vint w64 lim ∷ [], (stext ∷ [], (smp ∷ [], (vint w64 (length ys) ∷ [], (sbytes ∷ [], tt))))))))))), tt) (and-then ! (load ! (from ! (stop !)) (look ! 59 refl)) (and-then ! (load ! (from ! (stop !)) (look ! 57 refl)) (and-then ! (load ! (from ! (stop !)) (look ! 55 refl)) (and-then ! (load ! (from ! (stop !)) (look ! 53 refl)) (and-then ! (load ! (from ! (stop !)) (look ! 51 refl)) (and-then ! (load ! (from ! (stop !)) (look ! 49 refl)) (and-then ! (load ! (from ! (stop !)) (look ! 29 refl)) (and-then ! (load ! (from ! (stop !)) (look ! 25 refl)) (and-then ! (load ! (from ! (stop !)) (look ! 39 refl)) (and-then ! (load ! (from ! (stop !)) (look ! 21 refl)) (no-more !))))))))))) (λ wd.
-        use1 W (later (some (λ (got : Kept). ((‵ (flft (κfiles) qfiles) ⊛ ‵ (flft (κtab) qtab) ⊛ ‵ (flft (κstrs) qstrs) ⊛ ‵ (flft (κtext) qtext) ⊛ ‵ (flft (κmp) qmp) ⊛ ‵ (flft (κbytes) qbytes) ⊛ ‵ ftrue) ⊛ ‵ (Kep .own got (wd ∷ []))) ⊛ raw (ensured 𝓤 H A flatten-rows.ended (flatten-rows.clauses 𝓤 H A mem run) (κfiles, (κtab, (κstrs, (κtext, (κmp, (κbytes, tt)))))) (xfiles γfiles files, (xtab γtab tab, (root, (xstrs γstrs strs, (kset, (lim, (xtext γtext text, (xmp γmp mp, ((length ys), (xbytes γbytes bytes, tt)))))))))) tt got)))) (id⊢ 𝓤 _) $
-        await ! tt $ pick ! (λ d.
-        split ! $
-        move ! (1 ∷ []) $
-        use1 W (some (λ (ks : (Unit {0}) × ((Unit {0}) × ((Unit {0}) × ((Unit {0}) × ((Unit {0}) × ((Unit {0}) × ((List (u8 .Denot)) × ((List (u32 .Denot)) × ((Unit {0}) × ((List (u8 .Denot)) × (Unit {0}))))))))))). ‵ (lasts flatten-rows.ended (κfiles, (κtab, (κstrs, (κtext, (κmp, (κbytes, tt)))))) (xfiles γfiles files, (xtab γtab tab, (root, (xstrs γstrs strs, (kset, (lim, (xtext γtext text, (xmp γmp mp, ((length ys), (xbytes γbytes bytes, tt)))))))))) ks) ⊛ raw (fact 𝓤 (Keeps h (length ys) text mp bytes (ks .1 .1 .1 .1 .1 .1 .0) (ks .1 .1 .1 .1 .1 .1 .1 .0) (ks .1 .1 .1 .1 .1 .1 .1 .1 .1 .0) d)))) (id⊢ 𝓤 _) $
-        pick ! (λ ks.
-        split ! $
-        move ! (1 ∷ []) $
-        heard ! (Keeps h (length ys) text mp bytes (ks .1 .1 .1 .1 .1 .1 .0) (ks .1 .1 .1 .1 .1 .1 .1 .0) (ks .1 .1 .1 .1 .1 .1 .1 .1 .1 .0) d) (λ k.
-        fsplit ! $
-        move ! (1 ∷ []) $
-        fsplit ! $
-        move ! (1 ∷ []) $
-        fsplit ! $
-        move ! (1 ∷ []) $
-        fsplit ! $
-        move ! (1 ∷ []) $
-        fsplit ! $
-        move ! (1 ∷ []) $
-        fsplit ! $
-        move ! (1 ∷ []) $
-        fsplit ! $
-        fsplit ! $
+        answers W ! tt (‵ (flft (κfiles) qfiles) ⊛ ‵ (flft (κtab) qtab) ⊛ ‵ (flft (κstrs) qstrs) ⊛ ‵ (flft (κtext) qtext) ⊛ ‵ (flft (κmp) qmp) ⊛ ‵ (flft (κbytes) qbytes) ⊛ ‵ ftrue) Kep wd (λ (ks : (Unit {0}) × ((Unit {0}) × ((Unit {0}) × ((Unit {0}) × ((Unit {0}) × ((Unit {0}) × ((List (u8 .Denot)) × ((List (u32 .Denot)) × ((Unit {0}) × ((List (u8 .Denot)) × (Unit {0}))))))))))). lasts flatten-rows.ended (κfiles, (κtab, (κstrs, (κtext, (κmp, (κbytes, tt)))))) (xfiles γfiles files, (xtab γtab tab, (root, (xstrs γstrs strs, (kset, (lim, (xtext γtext text, (xmp γmp mp, ((length ys), (xbytes γbytes bytes, tt)))))))))) ks) (λ d ks. Keeps h (length ys) text mp bytes (ks .1 .1 .1 .1 .1 .1 .0) (ks .1 .1 .1 .1 .1 .1 .1 .0) (ks .1 .1 .1 .1 .1 .1 .1 .1 .1 .0) d) (id⊢ 𝓤 _) (λ d ks k.
+        fsplit ! $ move ! (1 ∷ []) $ fsplit ! $ move ! (1 ∷ []) $ fsplit ! $ move ! (1 ∷ []) $ fsplit ! $
+        move ! (1 ∷ []) $ fsplit ! $ move ! (1 ∷ []) $ fsplit ! $ move ! (1 ∷ []) $ fsplit ! $ fsplit ! $
         move ! (1 ∷ []) $
         feqL ! (λ ks-len6.
-        move ! (1 ∷ []) $
-        fsplit ! $
-        fsplit ! $
-        move ! (1 ∷ []) $
+        move ! (1 ∷ []) $ fsplit ! $ fsplit ! $ move ! (1 ∷ []) $
         feqL ! (λ ks-len7.
-        move ! (1 ∷ []) $
-        fsplit ! $
-        move ! (1 ∷ []) $
-        fsplit ! $
-        fsplit ! $
-        move ! (1 ∷ []) $
+        move ! (1 ∷ []) $ fsplit ! $ move ! (1 ∷ []) $ fsplit ! $ fsplit ! $ move ! (1 ∷ []) $
         feqL ! (λ ks-len9.
-        move ! (1 ∷ []) $
-        move ! (11 ∷ []) $
-        split ! $
-        move ! (1 ∷ []) $
+        move ! (1 ∷ []) $ move ! (11 ∷ []) $ split ! $ move ! (1 ∷ []) $
         peeks ! Kep (Is Kep) (shows 𝓤 H A Kep) d (wd ∷ []) (λ d-is.
         land ! (from ! (stop !)) (init ! 49 refl (Kep-lawful 𝓤 H A W .typed d _ d-is .0)) $
         rewrite ! 49 (λ (u : Val). ‵ (fat fullShare KepCell l₁₂ 0 u)) (ap only (Kep-tells d _ d-is)) refl $
@@ -288,37 +201,16 @@ module _ {M : Type 1} (𝓤 : URA M) (H : Heap 𝓤) (A : Atoms 𝓤) (W : Given
         move ! (20 ∷ 15 ∷ []) $
         use2 W (later (some (λ (δ : GName). ‵ (MutSlice (named 0) (ν ∷ []) Row .own (xys δ ys) (sys ∷ [])) ⊛ ‵ (LentAgain Row κys (ν ∷ []) qys γys bys oys δ ys)))) (lends-again Row κys (ν ∷ []) qys γys bys oys 𝓤 H A W (named 5) (named 0) ys) $
         await ! tt $ pick ! (λ δ.
-        split ! $
-        nothing ! $
-        move ! (3 ∷ 0 ∷ []) $
-        join ! $
-        move ! (0 ∷ 1 ∷ []) $
+        split ! $ nothing ! $ move ! (3 ∷ 0 ∷ []) $ join ! $ move ! (0 ∷ 1 ∷ []) $
         use2 W (raw (To-clear 𝓤 H A mem run .pre (((ν ∷ [], tt), (fullShare, tt), tt, (xys δ ys, ((d .clears), tt)), (sys ∷ [], (vint w64 (d .clears) ∷ [], tt))), tt))) (goes-clear ν δ (d .clears) (kept-clears d _ d-is) (clears-in h ys text mp bytes (ks .1 .1 .1 .1 .1 .1 .0) (ks .1 .1 .1 .1 .1 .1 .1 .0) (ks .1 .1 .1 .1 .1 .1 .1 .1 .1 .0) d k)) $
         calls-at ! (fmOf 𝓤 H (W .laws) 𝓣) (To-clear 𝓤 H A mem run) known-clear (((ν ∷ [], tt), (fullShare, tt), tt, (xys δ ys, ((d .clears), tt)), (sys ∷ [], (vint w64 (d .clears) ∷ [], tt))), tt) (and-then ! (load ! (from ! (stop !)) (look ! 27 refl)) (and-then ! (load ! (from ! (stop !)) (look ! 47 refl)) (no-more !))) (λ wu.
-        use1 W (later (some (λ (got : Unit {0}). ((‵ (flft (ν ∷ []) fullShare) ⊛ ‵ ftrue) ⊛ ‵ (Nothing .own got (wu ∷ []))) ⊛ raw (ensured 𝓤 H A clear.ended (clear.clauses 𝓤 H A mem run) (ν ∷ [], tt) (xys δ ys, ((d .clears), tt)) tt got)))) (id⊢ 𝓤 _) $
-        await ! tt $ pick ! (λ u.
-        split ! $
-        move ! (1 ∷ []) $
-        use1 W (some (λ (ls : (List (Row .Denot)) × ((Unit {0}) × (Unit {0}))). ‵ (lasts clear.ended (ν ∷ [], tt) (xys δ ys, ((d .clears), tt)) ls) ⊛ raw (fact 𝓤 (ls .0 ≡ cleared ys (d .clears))))) (id⊢ 𝓤 _) $
-        pick ! (λ ls.
-        split ! $
-        move ! (1 ∷ []) $
-        heard ! (ls .0 ≡ cleared ys (d .clears)) (λ e₁.
-        fsplit ! $
-        fsplit ! $
-        move ! (1 ∷ []) $
+        answers W ! tt (‵ (flft (ν ∷ []) fullShare) ⊛ ‵ ftrue) Nothing wu (λ (ls : (List (Row .Denot)) × ((Unit {0}) × (Unit {0}))). lasts clear.ended (ν ∷ [], tt) (xys δ ys, ((d .clears), tt)) ls) (λ u ls. ls .0 ≡ cleared ys (d .clears)) (id⊢ 𝓤 _) (λ u ls e₁.
+        fsplit ! $ fsplit ! $ move ! (1 ∷ []) $
         feqL ! (λ ls-len0.
-        move ! (1 ∷ []) $
-        fsplit ! $
-        move ! (1 ∷ []) $
-        move ! (3 ∷ []) $
-        split ! $
-        move ! (1 ∷ []) $
+        move ! (1 ∷ []) $ fsplit ! $ move ! (1 ∷ []) $ move ! (3 ∷ []) $ split ! $ move ! (1 ∷ []) $
         peeks ! Nothing (Is Nothing) (shows 𝓤 H A Nothing) u (wu ∷ []) (λ u-is.
         land ! (from ! (stop !)) (init ! 35 refl (nothing-lawful 𝓤 H A W .typed u _ u-is .0)) $
-        move ! (1 ∷ []) $
-        split ! $
-        move ! (0 ∷ []) $
+        move ! (1 ∷ []) $ split ! $ move ! (0 ∷ []) $
         lft-end ! tt $
         move ! (0 ∷ 6 ∷ 5 ∷ []) $
         use3 W (later (‵ (MutSlice (named 5) κys Row .own (xys γys (ls .0)) (sys ∷ [])) ⊛ ‵ (flft κys qys))) (comes-back Row κys (ν ∷ []) qys γys bys oys 𝓤 H A W (named 5) (named 0) ys δ (ls .0) ys-room ls-len0) $
@@ -327,66 +219,25 @@ module _ {M : Type 1} (𝓤 : URA M) (H : Heap 𝓤) (A : Atoms 𝓤) (W : Given
         assigns ! (of-opd ! (load ! (from ! (fld ! refl (stop !))) (look-in ! 53 (sub ! 0 refl (whole !))))) (from ! (stop !)) (init ! 49 refl (Tab-lawful 𝓤 H A W .typed (d .table) _ (kept-table d _ d-is) .0)) $
         assigns ! (addr ! (from ! (fld ! refl (hop ! (look-in ! 59 (sub ! 0 refl (whole !))) (stop !))))) (from ! (stop !)) (init ! 29 refl (tt, tt)) $
         assigns ! (agg ! (and-then ! (load ! (from ! (stop !)) (look ! 29 refl)) (and-then ! (load ! (from ! (fld ! refl (stop !))) (look-in ! 59 (sub ! 1 refl (whole !)))) (no-more !)))) (from ! (stop !)) (init ! 27 refl (tt, (tt, (record { fits = ys-room .0 }, tt)))) $
-        nothing ! $
-        move ! (2 ∷ 0 ∷ []) $
-        join ! $
-        move ! (0 ∷ 1 ∷ []) $
+        nothing ! $ move ! (2 ∷ 0 ∷ []) $ join ! $ move ! (0 ∷ 1 ∷ []) $
         use2 W (raw (To-fill 𝓤 H A mem run .pre (((κys, tt), (qys, tt), tt, (xys γys (ls .0), ((d .table), tt)), (sys ∷ [], (Tab-val (d .table) ∷ [], tt))), tt))) (goes-fill (ls .0) d (kept-table d _ d-is) (omega (arith, fills-in h ys text mp bytes (ks .1 .1 .1 .1 .1 .1 .0) (ks .1 .1 .1 .1 .1 .1 .1 .0) (ks .1 .1 .1 .1 .1 .1 .1 .1 .1 .0) d k, ls-len0), fills-few h ys text mp bytes (ks .1 .1 .1 .1 .1 .1 .0) (ks .1 .1 .1 .1 .1 .1 .1 .0) (ks .1 .1 .1 .1 .1 .1 .1 .1 .1 .0) d k)) $
         calls-at ! (fmOf 𝓤 H (W .laws) 𝓣) (To-fill 𝓤 H A mem run) known-fill (((κys, tt), (qys, tt), tt, (xys γys (ls .0), ((d .table), tt)), (sys ∷ [], (Tab-val (d .table) ∷ [], tt))), tt) (and-then ! (load ! (from ! (stop !)) (look ! 26 refl)) (and-then ! (load ! (from ! (stop !)) (look ! 48 refl)) (no-more !))) (λ wv.
-        use1 W (later (some (λ (got : Unit {0}). ((‵ (flft (κys) qys) ⊛ ‵ ftrue) ⊛ ‵ (Nothing .own got (wv ∷ []))) ⊛ raw (ensured 𝓤 H A fill.ended (fill.clauses 𝓤 H A mem run) (κys, tt) (xys γys (ls .0), ((d .table), tt)) tt got)))) (id⊢ 𝓤 _) $
-        await ! tt $ pick ! (λ v.
-        split ! $
-        move ! (1 ∷ []) $
-        use1 W (some (λ (rs : (List (Row .Denot)) × ((Unit {0}) × (Unit {0}))). ‵ (lasts fill.ended (κys, tt) (xys γys (ls .0), ((d .table), tt)) rs) ⊛ raw (fact 𝓤 (rs .0 ≡ filled (ls .0) (d .table) ((d .table) .length))))) (id⊢ 𝓤 _) $
-        pick ! (λ rs.
-        split ! $
-        move ! (1 ∷ []) $
-        heard ! (rs .0 ≡ filled (ls .0) (d .table) ((d .table) .length)) (λ e₂.
-        fsplit ! $
-        fsplit ! $
-        move ! (1 ∷ []) $
+        answers W ! tt (‵ (flft (κys) qys) ⊛ ‵ ftrue) Nothing wv (λ (rs : (List (Row .Denot)) × ((Unit {0}) × (Unit {0}))). lasts fill.ended (κys, tt) (xys γys (ls .0), ((d .table), tt)) rs) (λ v rs. rs .0 ≡ filled (ls .0) (d .table) ((d .table) .length)) (id⊢ 𝓤 _) (λ v rs e₂.
+        fsplit ! $ fsplit ! $ move ! (1 ∷ []) $
         feqL ! (λ rs-len0.
-        move ! (1 ∷ []) $
-        fsplit ! $
-        move ! (1 ∷ []) $
-        move ! (3 ∷ []) $
-        split ! $
-        move ! (1 ∷ []) $
+        move ! (1 ∷ []) $ fsplit ! $ move ! (1 ∷ []) $ move ! (3 ∷ []) $ split ! $ move ! (1 ∷ []) $
         peeks ! Nothing (Is Nothing) (shows 𝓤 H A Nothing) v (wv ∷ []) (λ v-is.
         land ! (from ! (stop !)) (store ! 38 refl (nothing-lawful 𝓤 H A W .typed v _ v-is .0)) $
         assigns ! (of-opd ! (load ! (from ! (fld ! refl (stop !))) (look-in ! 56 (sub ! 2 refl (whole !))))) (from ! (stop !)) (init ! 80 refl (Fla-lawful 𝓤 H A W .typed (d .answer) _ (kept-answer d _ d-is) .0)) $
-        move ! (1 ∷ []) $
-        split ! $
-        move ! (11 ∷ []) $
-        split ! $
-        move ! (1 ∷ []) $
-        split ! $
-        move ! (1 ∷ []) $
-        split ! $
-        move ! (1 ∷ []) $
-        split ! $
-        move ! (1 ∷ []) $
-        split ! $
-        move ! (1 ∷ []) $
-        split ! $
-        move ! (0 ∷ 1 ∷ []) $
-        join ! $
-        move ! (6 ∷ 0 ∷ []) $
-        join ! $
-        move ! (1 ∷ 0 ∷ []) $
-        join ! $
-        move ! (1 ∷ 0 ∷ []) $
-        join ! $
-        move ! (1 ∷ 0 ∷ []) $
-        join ! $
-        move ! (1 ∷ 0 ∷ []) $
-        join ! $
-        move ! (1 ∷ 0 ∷ []) $
-        join ! $
+        move ! (1 ∷ []) $ split ! $ move ! (11 ∷ []) $ split ! $ move ! (1 ∷ []) $ split ! $ move ! (1 ∷ []) $
+        split ! $ move ! (1 ∷ []) $ split ! $ move ! (1 ∷ []) $ split ! $ move ! (1 ∷ []) $ split ! $
+        move ! (0 ∷ 1 ∷ []) $ join ! $ move ! (6 ∷ 0 ∷ []) $ join ! $ move ! (1 ∷ 0 ∷ []) $ join ! $
+        move ! (1 ∷ 0 ∷ []) $ join ! $ move ! (1 ∷ 0 ∷ []) $ join ! $ move ! (1 ∷ 0 ∷ []) $ join ! $
+        move ! (1 ∷ 0 ∷ []) $ join ! $
         returns ! (look ! 80 refl) $ forget ! 30 refl $ forget ! 32 refl $ forget ! 34 refl $ forget ! 36 refl $ forget ! 38 refl $ forget ! 40 refl $ forget ! 42 refl $ forget ! 44 refl $ forget ! 46 refl $ forget ! 48 refl $ forget ! 50 refl $ forget ! 52 refl $ forget ! 54 refl $ forget ! 56 refl $ forget ! 58 refl $ forget ! 60 refl $ forget ! 62 refl $ forget ! 64 refl $ forget ! 66 refl $ forget ! 68 refl $ forget ! 70 refl $ forget ! 72 refl $ forget ! 74 refl $ forget ! 76 refl $ forget ! 78 refl $ forget ! 80 refl $
         move ! (80 ∷ 81 ∷ []) $ free1 ! $ move ! (78 ∷ 79 ∷ []) $ free1 ! $ move ! (76 ∷ 77 ∷ []) $ free1 ! $ move ! (74 ∷ 75 ∷ []) $ free1 ! $ move ! (72 ∷ 73 ∷ []) $ free1 ! $ move ! (70 ∷ 71 ∷ []) $ free1 ! $ move ! (68 ∷ 69 ∷ []) $ free1 ! $ move ! (66 ∷ 67 ∷ []) $ free1 ! $ move ! (64 ∷ 65 ∷ []) $ free1 ! $ move ! (62 ∷ 63 ∷ []) $ free1 ! $ move ! (60 ∷ 61 ∷ []) $ free1 ! $ move ! (58 ∷ 59 ∷ []) $ free1 ! $ move ! (56 ∷ 57 ∷ []) $ free1 ! $ move ! (54 ∷ 55 ∷ []) $ free1 ! $ move ! (52 ∷ 53 ∷ []) $ free1 ! $ move ! (50 ∷ 51 ∷ []) $ free1 ! $ move ! (48 ∷ 49 ∷ []) $ free1 ! $ move ! (46 ∷ 47 ∷ []) $ free1 ! $ move ! (44 ∷ 45 ∷ []) $ free1 ! $ move ! (42 ∷ 43 ∷ []) $ free1 ! $ move ! (40 ∷ 41 ∷ []) $ free1 ! $ move ! (38 ∷ 39 ∷ []) $ free1 ! $ move ! (36 ∷ 37 ∷ []) $ free1 ! $ move ! (34 ∷ 35 ∷ []) $ free1 ! $ move ! (32 ∷ 33 ∷ []) $ free1 ! $ move ! (30 ∷ 31 ∷ []) $ free1 ! $ free0 ! $
         keep ! (0 ∷ 25 ∷ 24 ∷ 23 ∷ 15 ∷ 14 ∷ 5 ∷ 12 ∷ []) $
-        by ! (exits d (kept-answer d _ d-is) (ks .1 .1 .1 .1 .1 .1 .0) (ks .1 .1 .1 .1 .1 .1 .1 .0) (ks .1 .1 .1 .1 .1 .1 .1 .1 .1 .0) (rs .0) (flattens-back h ys text mp bytes (ks .1 .1 .1 .1 .1 .1 .0) (ks .1 .1 .1 .1 .1 .1 .1 .0) (ks .1 .1 .1 .1 .1 .1 .1 .1 .1 .0) d k (rs .0) (e₂ ∙ ap (λ (us : List Record). filled us (d .table) (d .table .length)) e₁)) ks-len6 ks-len7 (rs-len0 ∙ ls-len0) ks-len9)))))))))))))))))))))))
+        by ! (exits d (kept-answer d _ d-is) (ks .1 .1 .1 .1 .1 .1 .0) (ks .1 .1 .1 .1 .1 .1 .1 .0) (ks .1 .1 .1 .1 .1 .1 .1 .1 .1 .0) (rs .0) (flattens-back h ys text mp bytes (ks .1 .1 .1 .1 .1 .1 .0) (ks .1 .1 .1 .1 .1 .1 .1 .0) (ks .1 .1 .1 .1 .1 .1 .1 .1 .1 .0) d k (rs .0) (e₂ ∙ ap (λ (us : List Record). filled us (d .table) (d .table .length)) e₁)) ks-len6 ks-len7 (rs-len0 ∙ ls-len0) ks-len9)))))))))))))))))
 
     walk : ent 𝓤 (onEntry 𝓤 H A f.signature (κfiles, (κtab, (κstrs, (κtext, (κmp, (κys, (κbytes, tt))))))) (qfiles, (qtab, (qstrs, (qtext, (qmp, (qys, (qbytes, tt))))))) (xfiles γfiles files, (xtab γtab tab, (root, (xstrs γstrs strs, (kset, (lim, (xtext γtext text, (xmp γmp mp, (xys γys ys, (xbytes γbytes bytes, tt)))))))))) (sfiles ∷ [], (stab ∷ [], (vint w64 root ∷ [], (sstrs ∷ [], (vint w64 kset ∷ [], (vint w64 lim ∷ [], (stext ∷ [], (smp ∷ [], (sys ∷ [], (sbytes ∷ [], tt))))))))))) (WpFn 𝓤 H C Λ code.function (sfiles ∷ stab ∷ vint w64 root ∷ sstrs ∷ vint w64 kset ∷ vint w64 lim ∷ stext ∷ smp ∷ sys ∷ sbytes ∷ []) Post)
     walk =

@@ -19,9 +19,9 @@ use prog.Memory.{Memory}
 use prog.Routine.{Routine}
 use prog.Wp.{Heap, Out, Env, afterSeq, afterBlock, afterTurn, Calls, Loops, Wp, atReturn, WpFn, Tables}
 use ghost.Atoms.{Atoms}
-use contract.Monad.{Fun, fact}
+use contract.Monad.{Fun}
 use contract.Running.{givenOf, tables, tablesOf}
-use types.Kit.{Given, Item, Sq, runs, anyQ, atRet, ‵, raw, later, some, _⊛_, ⋆, _$_, _∵_, !, qed, by, move, keep, split, join, rewrite, use1, use2, pick, await, fsplit, fjoin, suffices, frame, done}
+use types.Kit.{Given, Item, Sq, runs, anyQ, atRet, ‵, raw, _⊛_, ⋆, _$_, _∵_, !, qed, by, move, keep, split, join, rewrite, use1, use2, fsplit, fjoin, suffices, frame, done}
 use types.Part.{whole, sub, look-in}
 use types.Run.{look, init, store, forget, stop, fld, from, load, lit, of-opd, and-then, no-more, bin, assigns, assigns-last, land, first, blocks, stays, leaves-loop, exec, again, loops, Below, returns, enter, alloc1, alloc0, params1, pass1, pass0, free1, free0}
 use sound.WpLaws.{fmOf, WpFn-mono}
@@ -32,14 +32,14 @@ use denote.Memory.{pointee}
 use denote.Plain.{uint-makes, uint-tells, uint-lawful}
 use denote.Builtin.{usize}
 use denote.Ref.{RefT, now}
-use denote.Slice.{sliceTy, sliceVal, ShrSlice, Room, slice-vals, shr-slice-tells, shr-slice-copy}
+use denote.Slice.{sliceTy, sliceVal, ShrSlice, Room, slice-vals, shr-slice-tells}
 use denote.Signature.{plain}
-use denote.Steps.{owned, peeks, heard, nothing, only}
+use denote.Steps.{owned, peeks, nothing, only}
 use denote.Triple.Entry.{onEntry}
 use denote.Triple.Spec.{Meets, tripleOf}
 use denote.Triple.Statement.{Contract, Triple}
 use denote.Triple.Call.{calls-at}
-use denote.Triple.Clauses.{ensured, lasts}
+use denote.Triple.Clauses.{lasts}
 use denote.Triple.Table.{entered, cited}
 use denote.Triple.Walked.{says, Stays, stay-none-slice, walkOf, Walks, ends-at, walked, goes-none-slice, walk-meets}
 use lib.Dec.{lit<}
@@ -49,6 +49,7 @@ use Rattle.records.specs.Records.{noRecord}
 use Rattle.records.specs.Rows.{few, noTable, withRow, tabled}
 use Rattle.records.proofs.Record.Laws.{mir as Cell}
 use Rattle.records.proofs.Table.Laws.{mir as TabCell}
+use Rattle.records.proofs.Calling.{doubles, answers}
 use Rattle.records.proofs.Rec.{Row, makes, lawful, Tab, Tab-lawful, Tab-makes}
 use Rattle.records.proofs.Few.{few-least, few-most}
 use Rattle.records.proofs.Tables.{tabled-first, tabled-turn}
@@ -174,62 +175,25 @@ module _ {M : Type 1} (𝓤 : URA M) (H : Heap 𝓤) (A : Atoms 𝓤) (W : Given
           rewrite ! 2 (λ (y : Bool). ‵ (fat fullShare tyBool l₇ 0 (vbool y))) (test) refl $
           stays ! (load ! (from ! (stop !)) (look ! 2 refl)) $
           move ! (0 ∷ []) $
-          use1 W (‵ (ShrSlice (named 0) κys Row .own (xys γys ys) (sys ∷ [])) ⊛ ‵ (ShrSlice (named 0) κys Row .own (xys γys ys) (sys ∷ []))) (shr-slice-copy 𝓤 H A W (named 0) κys Row .twice (xys γys ys) (sys ∷ [])) $
-          split ! $
-          nothing ! $
-          move ! (3 ∷ 0 ∷ []) $
-          join ! $
-          move ! (0 ∷ 1 ∷ []) $
+          doubles W ! (named 0) κys Row (xys γys ys) (sys ∷ []) $ nothing ! $ move ! (3 ∷ 0 ∷ []) $ join ! $ move ! (0 ∷ 1 ∷ []) $
           use2 W (raw (To-read 𝓤 H A mem run .pre (((κys, tt), (qys, tt), tt, (xys γys ys, ((i .0), tt)), (sys ∷ [], (vint w64 (i .0) ∷ [], tt))), tt))) (goes-read (i .0) i-fits i-in) $
           calls-at ! (fmOf 𝓤 H (W .laws) 𝓣) (To-read 𝓤 H A mem run) known-read (((κys, tt), (qys, tt), tt, (xys γys ys, ((i .0), tt)), (sys ∷ [], (vint w64 (i .0) ∷ [], tt))), tt) (and-then ! (load ! (from ! (stop !)) (look ! 14 refl)) (and-then ! (load ! (from ! (stop !)) (look ! 8 refl)) (no-more !))) (λ wr.
-          use1 W (later (some (λ (got : Record). ((‵ (flft (κys) qys) ⊛ ‵ ftrue) ⊛ ‵ (Row .own got (wr ∷ []))) ⊛ raw (ensured 𝓤 H A read.ended (read.clauses 𝓤 H A mem run) (κys, tt) (xys γys ys, ((i .0), tt)) tt got)))) (id⊢ 𝓤 _) $
-          await ! tt $ pick ! (λ r.
-          split ! $
-          move ! (1 ∷ []) $
-          use1 W (some (λ (ks : (Unit {0}) × ((Unit {0}) × (Unit {0}))). ‵ (lasts read.ended (κys, tt) (xys γys ys, ((i .0), tt)) ks) ⊛ raw (fact 𝓤 (r ≡ getD ys (i .0) noRecord)))) (id⊢ 𝓤 _) $
-          pick ! (λ ks.
-          split ! $
-          move ! (1 ∷ []) $
-          heard ! (r ≡ getD ys (i .0) noRecord) (λ e₁.
-          fsplit ! $
-          move ! (1 ∷ []) $
-          fsplit ! $
-          move ! (1 ∷ []) $
-          move ! (3 ∷ []) $
-          split ! $
-          move ! (1 ∷ []) $
+          answers W ! tt (‵ (flft (κys) qys) ⊛ ‵ ftrue) Row wr (λ (ks : (Unit {0}) × ((Unit {0}) × (Unit {0}))). lasts read.ended (κys, tt) (xys γys ys, ((i .0), tt)) ks) (λ r ks. r ≡ getD ys (i .0) noRecord) (id⊢ 𝓤 _) (λ r ks e₁.
+          fsplit ! $ move ! (1 ∷ []) $ fsplit ! $ move ! (1 ∷ []) $ move ! (3 ∷ []) $ split ! $ move ! (1 ∷ []) $
           peeks ! Row (Is Row) (shows 𝓤 H A Row) r (wr ∷ []) (λ r-is.
           land ! (from ! (stop !)) (init ! 10 refl (lawful 𝓤 H A W .typed r _ r-is .0)) $
-          move ! (1 ∷ []) $
-          split ! $
-          nothing ! $
-          move ! (0 ∷ []) $
+          move ! (1 ∷ []) $ split ! $ nothing ! $ move ! (0 ∷ []) $
           use1 W (raw (To-with-row 𝓤 H A mem run .pre ((tt, tt, tt, ((i .2), ((i .0), (r, tt))), ((i .3) ∷ [], (vint w64 (i .0) ∷ [], (wr ∷ [], tt)))), tt))) (goes-with-row (i .2) (i .3) (i .4) (i .0) i-fits r wr r-is low) $
           calls-at ! (fmOf 𝓤 H (W .laws) 𝓣) (To-with-row 𝓤 H A mem run) known-with-row ((tt, tt, tt, ((i .2), ((i .0), (r, tt))), ((i .3) ∷ [], (vint w64 (i .0) ∷ [], (wr ∷ [], tt)))), tt) (and-then ! (load ! (from ! (stop !)) (look ! 16 refl)) (and-then ! (load ! (from ! (stop !)) (look ! 14 refl)) (and-then ! (load ! (from ! (stop !)) (look ! 12 refl)) (no-more !)))) (λ wu.
-          use1 W (later (some (λ (got : Table). ((‵ ftrue) ⊛ ‵ (Tab .own got (wu ∷ []))) ⊛ raw (ensured 𝓤 H A with-row.ended (with-row.clauses 𝓤 H A mem run) tt ((i .2), ((i .0), (r, tt))) tt got)))) (id⊢ 𝓤 _) $
-          await ! tt $ pick ! (λ u.
-          split ! $
-          move ! (1 ∷ []) $
-          use1 W (some (λ (ls : (Unit {0}) × ((Unit {0}) × ((Unit {0}) × (Unit {0})))). ‵ (lasts with-row.ended tt ((i .2), ((i .0), (r, tt))) ls) ⊛ raw (fact 𝓤 (u ≡ withRow (i .2) (i .0) r)))) (id⊢ 𝓤 _) $
-          pick ! (λ ls.
-          split ! $
-          move ! (1 ∷ []) $
-          heard ! (u ≡ withRow (i .2) (i .0) r) (λ e.
-          fsplit ! $
-          move ! (1 ∷ []) $
-          fsplit ! $
-          move ! (1 ∷ []) $
-          fsplit ! $
-          move ! (1 ∷ []) $
-          move ! (4 ∷ []) $
-          split ! $
-          move ! (1 ∷ []) $
+          answers W ! tt (‵ ftrue) Tab wu (λ (ls : (Unit {0}) × ((Unit {0}) × ((Unit {0}) × (Unit {0})))). lasts with-row.ended tt ((i .2), ((i .0), (r, tt))) ls) (λ u ls. u ≡ withRow (i .2) (i .0) r) (id⊢ 𝓤 _) (λ u ls e.
+          fsplit ! $ move ! (1 ∷ []) $ fsplit ! $ move ! (1 ∷ []) $ fsplit ! $ move ! (1 ∷ []) $ move ! (4 ∷ []) $
+          split ! $ move ! (1 ∷ []) $
           peeks ! Tab (Is Tab) (shows 𝓤 H A Tab) u (wu ∷ []) (λ u-is.
           land ! (from ! (stop !)) (store ! 21 refl (Tab-lawful 𝓤 H A W .typed u _ u-is .0)) $
           assigns-last ! (bin ! (load ! (from ! (stop !)) (look ! 19 refl)) (lit ! tt) (record { fits = j-fits })) (from ! (stop !)) (store ! 19 refl (tt, record { fits = j-fits })) $
           forget ! 13 refl $ forget ! 17 refl $
           keep ! (12 ∷ 6 ∷ 13 ∷ 14 ∷ 15 ∷ 16 ∷ 17 ∷ 18 ∷ 19 ∷ 20 ∷ 21 ∷ 22 ∷ 23 ∷ 24 ∷ 25 ∷ 26 ∷ 27 ∷ 28 ∷ []) $
-          again ! Nearer At i (i .0 + 1, omega arith, u, wu, u-is, tabled-turn at (i .0) (i .5) e₁ e) (omega arith)))))))))))
+          again ! Nearer At i (i .0 + 1, omega arith, u, wu, u-is, tabled-turn at (i .0) (i .5) e₁ e) (omega arith)))))))
       turns i false test =
           let over : full ≤ i .0 = nltb→le (i .0) full (subst (λ (y : Bool). T (not y)) (sym test) tt) in
           let upper : i .0 ≤ full = i .1 in
@@ -246,52 +210,25 @@ module _ {M : Type 1} (𝓤 : URA M) (H : Heap 𝓤) (A : Atoms 𝓤) (W : Given
     begun : (l₀ l₁ l₂ l₃ l₄ l₅ l₆ l₇ : ℕ) → Sq W (‵ (froom tyBool l₇ 0) ∷ ‵ (fdies tyBool l₇) ∷ ‵ (froom word l₆ 0) ∷ ‵ (fdies word l₆) ∷ ‵ (froom Cell l₅ 0) ∷ ‵ (fdies Cell l₅) ∷ ‵ (froom word l₄ 0) ∷ ‵ (fdies word l₄) ∷ ‵ (froom TabCell l₃ 0) ∷ ‵ (fdies TabCell l₃) ∷ ‵ (froom word l₂ 0) ∷ ‵ (fdies word l₂) ∷ ‵ (fat fullShare slice l₁ 0 sys) ∷ ‵ (fdies slice l₁) ∷ ‵ (froom TabCell l₀ 0) ∷ ‵ (fdies TabCell l₀) ∷ (‵ (flft κys qys) ⊛ ‵ ftrue) ∷ ‵ (owns (ShrSlice (named 0) κys Row ∷ []) (xys γys ys, tt) (sys ∷ [], tt)) ∷ []) (runs C Λ (En l₀ l₁ l₂ l₃ l₄ l₅ l₆ l₇) body.t-1 (atRet (En l₀ l₁ l₂ l₃ l₄ l₅ l₆ l₇) Post))
     begun l₀ l₁ l₂ l₃ l₄ l₅ l₆ l₇ =
         assigns ! (of-opd ! (load ! (from ! (fld ! refl (stop !))) (look-in ! 12 (sub ! 1 refl (whole !))))) (from ! (stop !)) (init ! 2 refl (tt, record { fits = ys-room .0 })) $
-        nothing ! $
-        move ! (0 ∷ []) $
+        nothing ! $ move ! (0 ∷ []) $
         use1 W (raw (To-at-most 𝓤 H A mem run .pre ((tt, tt, tt, ((length ys), tt), (vint w64 (length ys) ∷ [], tt)), tt))) (goes-at-most) $
         calls-at ! (fmOf 𝓤 H (W .laws) 𝓣) (To-at-most 𝓤 H A mem run) known-at-most ((tt, tt, tt, ((length ys), tt), (vint w64 (length ys) ∷ [], tt)), tt) (and-then ! (load ! (from ! (stop !)) (look ! 3 refl)) (no-more !)) (λ wk.
-        use1 W (later (some (λ (got : ℕ). ((‵ ftrue) ⊛ ‵ (usize .own got (wk ∷ []))) ⊛ raw (ensured 𝓤 H A at-most.ended (at-most.clauses 𝓤 H A mem run) tt ((length ys), tt) tt got)))) (id⊢ 𝓤 _) $
-        await ! tt $ pick ! (λ k.
-        split ! $
-        move ! (1 ∷ []) $
-        use1 W (some (λ (ms : (Unit {0}) × (Unit {0})). ‵ (lasts at-most.ended tt ((length ys), tt) ms) ⊛ raw (fact 𝓤 (k ≡ full)))) (id⊢ 𝓤 _) $
-        pick ! (λ ms.
-        split ! $
-        move ! (1 ∷ []) $
-        heard ! (k ≡ full) (λ e₀.
-        fsplit ! $
-        move ! (1 ∷ []) $
-        move ! (2 ∷ []) $
-        split ! $
-        move ! (1 ∷ []) $
+        answers W ! tt (‵ ftrue) usize wk (λ (ms : (Unit {0}) × (Unit {0})). lasts at-most.ended tt ((length ys), tt) ms) (λ k ms. k ≡ full) (id⊢ 𝓤 _) (λ k ms e₀.
+        fsplit ! $ move ! (1 ∷ []) $ move ! (2 ∷ []) $ split ! $ move ! (1 ∷ []) $
         peeks ! usize (Is usize) (shows 𝓤 H A usize) k (wk ∷ []) (λ k-is.
         land ! (from ! (stop !)) (init ! 14 refl (uint-lawful 𝓤 H A W w64 .typed k _ k-is .0)) $
         rewrite ! 14 (λ (u : Val). ‵ (fat fullShare word l₂ 0 u)) (ap only (uint-tells w64 k _ k-is) ∙ ap (vint w64) e₀) refl $
-        nothing ! $
-        move ! (0 ∷ []) $
+        nothing ! $ move ! (0 ∷ []) $
         use1 W (raw (To-no-table 𝓤 H A mem run .pre ((tt, tt, tt, tt, tt), tt))) (goes-no-table) $
         calls-at ! (fmOf 𝓤 H (W .laws) 𝓣) (To-no-table 𝓤 H A mem run) known-no-table ((tt, tt, tt, tt, tt), tt) (no-more !) (λ wu.
-        use1 W (later (some (λ (got : Table). ((‵ ftrue) ⊛ ‵ (Tab .own got (wu ∷ []))) ⊛ raw (ensured 𝓤 H A no-table.ended (no-table.clauses 𝓤 H A mem run) tt tt tt got)))) (id⊢ 𝓤 _) $
-        await ! tt $ pick ! (λ u.
-        split ! $
-        move ! (1 ∷ []) $
-        use1 W (some (λ (ns : Unit {0}). ‵ (lasts no-table.ended tt tt ns) ⊛ raw (fact 𝓤 (u ≡ noTable)))) (id⊢ 𝓤 _) $
-        pick ! (λ ns.
-        split ! $
-        move ! (1 ∷ []) $
-        heard ! (u ≡ noTable) (λ e.
-        move ! (1 ∷ []) $
-        split ! $
-        move ! (1 ∷ []) $
+        answers W ! tt (‵ ftrue) Tab wu (λ (ns : Unit {0}). lasts no-table.ended tt tt ns) (λ u ns. u ≡ noTable) (id⊢ 𝓤 _) (λ u ns e.
+        move ! (1 ∷ []) $ split ! $ move ! (1 ∷ []) $
         peeks ! Tab (Is Tab) (shows 𝓤 H A Tab) u (wu ∷ []) (λ u-is.
         land ! (from ! (stop !)) (init ! 15 refl (Tab-lawful 𝓤 H A W .typed u _ u-is .0)) $
         assigns ! (of-opd ! (lit ! tt)) (from ! (stop !)) (init ! 13 refl (tt, record { fits = lit< tt })) $
-        move ! (24 ∷ []) $
-        fsplit ! $
-        move ! (25 ∷ []) $
-        split ! $
+        move ! (24 ∷ []) $ fsplit ! $ move ! (25 ∷ []) $ split ! $
         keep ! (2 ∷ 0 ∷ 11 ∷ 12 ∷ 13 ∷ 14 ∷ 15 ∷ 16 ∷ 17 ∷ 18 ∷ 19 ∷ 20 ∷ 21 ∷ 22 ∷ 23 ∷ 24 ∷ 25 ∷ 26 ∷ []) $
-        first ! $ blocks ! $ loops ! 𝓣 Nearer Nearer-wf (At l₀ l₁ l₂ l₃ l₄ l₅ l₆ l₇) (λ i. turns l₀ l₁ l₂ l₃ l₄ l₅ l₆ l₇ i (ltb (i .0) full) refl) (0, omega arith, u, wu, u-is, e ∙ tabled-first at)))))))))))
+        first ! $ blocks ! $ loops ! 𝓣 Nearer Nearer-wf (At l₀ l₁ l₂ l₃ l₄ l₅ l₆ l₇) (λ i. turns l₀ l₁ l₂ l₃ l₄ l₅ l₆ l₇ i (ltb (i .0) full) refl) (0, omega arith, u, wu, u-is, e ∙ tabled-first at)))))))
 
     walk : ent 𝓤 (onEntry 𝓤 H A f.signature (κys, tt) (qys, tt) (xys γys ys, tt) (sys ∷ [], tt)) (WpFn 𝓤 H C Λ code.function (sys ∷ []) Post)
     walk =

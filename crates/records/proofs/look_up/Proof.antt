@@ -14,9 +14,9 @@ use prog.Memory.{Memory}
 use prog.Routine.{Routine}
 use prog.Wp.{Heap, Calls, Loops, WpFn, Tables}
 use ghost.Atoms.{Atoms}
-use contract.Monad.{Fun, fact}
+use contract.Monad.{Fun}
 use contract.Running.{givenOf, tables, tablesOf}
-use types.Kit.{Given, ‵, raw, later, some, _⊛_, ⋆, _$_, _∵_, !, qed, by, move, keep, split, join, use1, use2, use3, pick, await, fsplit, fjoin, suffices, frame, done}
+use types.Kit.{Given, ‵, raw, _⊛_, ⋆, _$_, _∵_, !, qed, by, move, keep, split, join, use2, use3, fsplit, fjoin, suffices, frame, done}
 use types.Run.{look, init, forget, stop, from, load, lit, and-then, no-more, land, returns, enter, alloc1, alloc0, params1, pass1, pass0, free1, free0}
 use sound.WpLaws.{fmOf, WpFn-mono}
 use denote.Exit.{yes}
@@ -25,14 +25,14 @@ use denote.Laws.{Is, shows}
 use denote.Plain.{uint-makes}
 use denote.Builtin.{u8, usize}
 use denote.Ref.{RefT, now}
-use denote.Slice.{sliceVal, ShrSlice, Room, slice-vals, shr-slice-tells, shr-slice-copy}
+use denote.Slice.{sliceVal, ShrSlice, Room, slice-vals, shr-slice-tells}
 use denote.Signature.{plain}
-use denote.Steps.{owned, peeks, heard, nothing}
+use denote.Steps.{owned, peeks, nothing}
 use denote.Triple.Entry.{onEntry}
 use denote.Triple.Spec.{Meets, tripleOf}
 use denote.Triple.Statement.{Contract, Triple}
 use denote.Triple.Call.{calls-at}
-use denote.Triple.Clauses.{ensured, lasts}
+use denote.Triple.Clauses.{lasts}
 use denote.Triple.Table.{entered, cited}
 use denote.Triple.Walked.{says, Stays, stay-none-slice, walkOf, Walks, ends-at, walked, goes-none-slice, walk-meets}
 use lib.Dec.{lit<}
@@ -44,6 +44,7 @@ use Rattle.macros.specs.Looking.{Shows}
 use Rattle.records.specs.declared.Table.{Table}
 use Rattle.records.specs.Records.{noRecord, allNone, rowsOf}
 use Rattle.records.specs.Rows.{few, tabled}
+use Rattle.records.proofs.Calling.{doubles, answers}
 use Rattle.records.proofs.Rec.{Row, Tab, Tab-lawful, Tab-makes}
 use Rattle.records.proofs.Loaded.{loaded-fits}
 use Rattle.records.proofs.Shown.{shown-loaded}
@@ -128,115 +129,39 @@ module _ {M : Type 1} (𝓤 : URA M) (H : Heap 𝓤) (A : Atoms 𝓤) (W : Given
         qed W ((‵ (flft κbs qbs) ⊛ ‵ (flft κys qys) ⊛ ‵ (flft κnm qnm) ⊛ ‵ ftrue) ∷ ‵ (owns (ShrSlice (named 0) κbs u8 ∷ ShrSlice (named 1) κys Row ∷ ShrSlice (named 2) κnm u8 ∷ []) (xbs γbs bs, (xys γys ys, (xnm γnm nm, tt))) (sbs ∷ [], (sys ∷ [], (snm ∷ [], tt)))) ∷ []) ∵ enter ! C Λ code.function (sbs ∷ sys ∷ snm ∷ []) _ $
         alloc1 ! (λ l₀. alloc1 ! (λ l₁. alloc1 ! (λ l₂. alloc1 ! (λ l₃. alloc1 ! (λ l₄. alloc1 ! (λ l₅. alloc0 ! $ params1 ! $
         pass1 ! (init ! 8 refl (tt, (tt, (record { fits = bs-room .0 }, tt)))) $ pass1 ! (init ! 6 refl (tt, (tt, (record { fits = ys-room .0 }, tt)))) $ pass1 ! (init ! 4 refl (tt, (tt, (record { fits = nm-room .0 }, tt)))) $ pass0 ! $
-        move ! (13 ∷ []) $
-        fsplit ! $
-        move ! (1 ∷ []) $
-        fsplit ! $
-        move ! (1 ∷ []) $
-        fsplit ! $
-        move ! (3 ∷ []) $
-        use1 W (‵ (ShrSlice (named 0) κbs u8 .own (xbs γbs bs) (sbs ∷ [])) ⊛ ‵ (ShrSlice (named 0) κbs u8 .own (xbs γbs bs) (sbs ∷ []))) (shr-slice-copy 𝓤 H A W (named 0) κbs u8 .twice (xbs γbs bs) (sbs ∷ [])) $
-        split ! $
-        move ! (4 ∷ []) $
-        use1 W (‵ (ShrSlice (named 1) κys Row .own (xys γys ys) (sys ∷ [])) ⊛ ‵ (ShrSlice (named 1) κys Row .own (xys γys ys) (sys ∷ []))) (shr-slice-copy 𝓤 H A W (named 1) κys Row .twice (xys γys ys) (sys ∷ [])) $
-        split ! $
-        move ! (4 ∷ []) $
-        use1 W (‵ (ShrSlice (named 2) κnm u8 .own (xnm γnm nm) (snm ∷ [])) ⊛ ‵ (ShrSlice (named 2) κnm u8 .own (xnm γnm nm) (snm ∷ []))) (shr-slice-copy 𝓤 H A W (named 2) κnm u8 .twice (xnm γnm nm) (snm ∷ [])) $
-        split ! $
-        move ! (19 ∷ []) $
-        split ! $
-        move ! (1 ∷ []) $
-        split ! $
-        move ! (1 ∷ []) $
-        split ! $
-        nothing ! $
-        move ! (3 ∷ 0 ∷ []) $
-        join ! $
-        move ! (0 ∷ 6 ∷ []) $
+        move ! (13 ∷ []) $ fsplit ! $ move ! (1 ∷ []) $ fsplit ! $ move ! (1 ∷ []) $ fsplit ! $ move ! (3 ∷ []) $
+        doubles W ! (named 0) κbs u8 (xbs γbs bs) (sbs ∷ []) $ move ! (4 ∷ []) $
+        doubles W ! (named 1) κys Row (xys γys ys) (sys ∷ []) $ move ! (4 ∷ []) $
+        doubles W ! (named 2) κnm u8 (xnm γnm nm) (snm ∷ []) $ move ! (19 ∷ []) $ split ! $ move ! (1 ∷ []) $ split ! $ move ! (1 ∷ []) $ split ! $ nothing ! $
+        move ! (3 ∷ 0 ∷ []) $ join ! $ move ! (0 ∷ 6 ∷ []) $
         use2 W (raw (To-load 𝓤 H A mem run .pre (((κys, tt), (qys, tt), tt, (xys γys ys, tt), (sys ∷ [], tt)), tt))) (goes-load) $
         calls-at ! (fmOf 𝓤 H (W .laws) 𝓣) (To-load 𝓤 H A mem run) known-load (((κys, tt), (qys, tt), tt, (xys γys ys, tt), (sys ∷ [], tt)), tt) (and-then ! (load ! (from ! (stop !)) (look ! 16 refl)) (no-more !)) (λ wt.
-        use1 W (later (some (λ (got : Table). ((‵ (flft (κys) qys) ⊛ ‵ ftrue) ⊛ ‵ (Tab .own got (wt ∷ []))) ⊛ raw (ensured 𝓤 H A load.ended (load.clauses 𝓤 H A mem run) (κys, tt) (xys γys ys, tt) tt got)))) (id⊢ 𝓤 _) $
-        await ! tt $ pick ! (λ t.
-        split ! $
-        move ! (1 ∷ []) $
-        use1 W (some (λ (ks : (Unit {0}) × (Unit {0})). ‵ (lasts load.ended (κys, tt) (xys γys ys, tt) ks) ⊛ raw (fact 𝓤 (t ≡ tabled (λ j. getD ys j noRecord) (few (length ys)))))) (id⊢ 𝓤 _) $
-        pick ! (λ ks.
-        split ! $
-        move ! (1 ∷ []) $
-        heard ! (t ≡ tabled (λ j. getD ys j noRecord) (few (length ys))) (λ e₁.
-        fsplit ! $
-        move ! (1 ∷ []) $
-        move ! (2 ∷ []) $
-        split ! $
-        move ! (1 ∷ []) $
+        answers W ! tt (‵ (flft (κys) qys) ⊛ ‵ ftrue) Tab wt (λ (ks : (Unit {0}) × (Unit {0})). lasts load.ended (κys, tt) (xys γys ys, tt) ks) (λ t ks. t ≡ tabled (λ j. getD ys j noRecord) (few (length ys))) (id⊢ 𝓤 _) (λ t ks e₁.
+        fsplit ! $ move ! (1 ∷ []) $ move ! (2 ∷ []) $ split ! $ move ! (1 ∷ []) $
         peeks ! Tab (Is Tab) (shows 𝓤 H A Tab) t (wt ∷ []) (λ t-is.
         land ! (from ! (stop !)) (init ! 15 refl (Tab-lawful 𝓤 H A W .typed t _ t-is .0)) $
         move ! (9 ∷ []) $
-        use1 W (‵ (ShrSlice (named 1) κys Row .own (xys γys ys) (sys ∷ [])) ⊛ ‵ (ShrSlice (named 1) κys Row .own (xys γys ys) (sys ∷ []))) (shr-slice-copy 𝓤 H A W (named 1) κys Row .twice (xys γys ys) (sys ∷ [])) $
-        split ! $
-        move ! (3 ∷ 0 ∷ []) $
+        doubles W ! (named 1) κys Row (xys γys ys) (sys ∷ []) $ move ! (3 ∷ 0 ∷ []) $
         use2 W (raw (To-rest-is-zero 𝓤 H A mem run .pre (((κys, tt), (qys, tt), tt, (xys γys ys, (256, tt)), (sys ∷ [], (vint w64 256 ∷ [], tt))), tt))) (goes-rest-is-zero) $
         calls-at ! (fmOf 𝓤 H (W .laws) 𝓣) (To-rest-is-zero 𝓤 H A mem run) known-rest-is-zero (((κys, tt), (qys, tt), tt, (xys γys ys, (256, tt)), (sys ∷ [], (vint w64 256 ∷ [], tt))), tt) (and-then ! (load ! (from ! (stop !)) (look ! 19 refl)) (and-then ! (lit ! tt) (no-more !))) (λ wc.
-        use1 W (later (some (λ (got : Bool). ((‵ (flft (κys) qys) ⊛ ‵ ftrue) ⊛ ‵ (bool .own got (wc ∷ []))) ⊛ raw (ensured 𝓤 H A rest-is-zero.ended (rest-is-zero.clauses 𝓤 H A mem run) (κys, tt) (xys γys ys, (256, tt)) tt got)))) (id⊢ 𝓤 _) $
-        await ! tt $ pick ! (λ c.
-        split ! $
-        move ! (1 ∷ []) $
-        use1 W (some (λ (ls : (Unit {0}) × ((Unit {0}) × (Unit {0}))). ‵ (lasts rest-is-zero.ended (κys, tt) (xys γys ys, (256, tt)) ls) ⊛ raw (fact 𝓤 (c ≡ allNone (dropL 256 ys))))) (id⊢ 𝓤 _) $
-        pick ! (λ ls.
-        split ! $
-        move ! (1 ∷ []) $
-        heard ! (c ≡ allNone (dropL 256 ys)) (λ e₂.
-        fsplit ! $
-        move ! (1 ∷ []) $
-        fsplit ! $
-        move ! (1 ∷ []) $
-        move ! (3 ∷ []) $
-        split ! $
-        move ! (1 ∷ []) $
+        answers W ! tt (‵ (flft (κys) qys) ⊛ ‵ ftrue) bool wc (λ (ls : (Unit {0}) × ((Unit {0}) × (Unit {0}))). lasts rest-is-zero.ended (κys, tt) (xys γys ys, (256, tt)) ls) (λ c ls. c ≡ allNone (dropL 256 ys)) (id⊢ 𝓤 _) (λ c ls e₂.
+        fsplit ! $ move ! (1 ∷ []) $ fsplit ! $ move ! (1 ∷ []) $ move ! (3 ∷ []) $ split ! $ move ! (1 ∷ []) $
         peeks ! bool (Is bool) (shows 𝓤 H A bool) c (wc ∷ []) (λ c-is.
         land ! (from ! (stop !)) (init ! 17 refl (bool-lawful 𝓤 H A W .typed c _ c-is .0)) $
-        move ! (1 ∷ []) $
-        split ! $
-        nothing ! $
-        move ! (11 ∷ 0 ∷ []) $
-        join ! $
-        move ! (12 ∷ 0 ∷ []) $
-        join ! $
+        move ! (1 ∷ []) $ split ! $ nothing ! $ move ! (11 ∷ 0 ∷ []) $ join ! $ move ! (12 ∷ 0 ∷ []) $ join ! $
         move ! (0 ∷ 14 ∷ 12 ∷ []) $
         use3 W (raw (To-look-up-rows 𝓤 H A mem run .pre (((κbs, (κnm, tt)), (qbs, (qnm, tt)), tt, (xbs γbs bs, (t, (c, (xnm γnm nm, tt)))), (sbs ∷ [], (wt ∷ [], (wc ∷ [], (snm ∷ [], tt))))), tt))) (goes-look-up-rows t wt t-is c wc c-is (loaded-fits ys t e₁)) $
         calls-at ! (fmOf 𝓤 H (W .laws) 𝓣) (To-look-up-rows 𝓤 H A mem run) known-look-up-rows (((κbs, (κnm, tt)), (qbs, (qnm, tt)), tt, (xbs γbs bs, (t, (c, (xnm γnm nm, tt)))), (sbs ∷ [], (wt ∷ [], (wc ∷ [], (snm ∷ [], tt))))), tt) (and-then ! (load ! (from ! (stop !)) (look ! 23 refl)) (and-then ! (load ! (from ! (stop !)) (look ! 17 refl)) (and-then ! (load ! (from ! (stop !)) (look ! 15 refl)) (and-then ! (load ! (from ! (stop !)) (look ! 19 refl)) (no-more !))))) (λ wr.
-        use1 W (later (some (λ (got : RefT (List ℕ)). ((‵ (flft (κbs) qbs) ⊛ ‵ (flft (κnm) qnm) ⊛ ‵ ftrue) ⊛ ‵ ((ShrSlice (named 0) κbs u8) .own got (wr ∷ []))) ⊛ raw (ensured 𝓤 H A look-up-rows.ended (look-up-rows.clauses 𝓤 H A mem run) (κbs, (κnm, tt)) (xbs γbs bs, (t, (c, (xnm γnm nm, tt)))) tt got)))) (id⊢ 𝓤 _) $
-        await ! tt $ pick ! (λ r.
-        split ! $
-        move ! (1 ∷ []) $
-        use1 W (some (λ (ns : (Unit {0}) × ((Unit {0}) × ((Unit {0}) × ((Unit {0}) × (Unit {0}))))). ‵ (lasts look-up-rows.ended (κbs, (κnm, tt)) (xbs γbs bs, (t, (c, (xnm γnm nm, tt)))) ns) ⊛ raw (fact 𝓤 ((c ≡ true → Shows bs (rowsOf (take (t .length) (t .rows))) nm (now r)) × (c ≡ false → now r ≡ []))))) (id⊢ 𝓤 _) $
-        pick ! (λ ns.
-        split ! $
-        move ! (1 ∷ []) $
-        heard ! ((c ≡ true → Shows bs (rowsOf (take (t .length) (t .rows))) nm (now r)) × (c ≡ false → now r ≡ [])) (λ e₃.
-        fsplit ! $
-        move ! (1 ∷ []) $
-        fsplit ! $
-        move ! (1 ∷ []) $
-        fsplit ! $
-        move ! (1 ∷ []) $
-        fsplit ! $
-        move ! (1 ∷ []) $
-        move ! (5 ∷ []) $
-        split ! $
-        move ! (1 ∷ []) $
+        answers W ! tt (‵ (flft (κbs) qbs) ⊛ ‵ (flft (κnm) qnm) ⊛ ‵ ftrue) (ShrSlice (named 0) κbs u8) wr (λ (ns : (Unit {0}) × ((Unit {0}) × ((Unit {0}) × ((Unit {0}) × (Unit {0}))))). lasts look-up-rows.ended (κbs, (κnm, tt)) (xbs γbs bs, (t, (c, (xnm γnm nm, tt)))) ns) (λ r ns. (c ≡ true → Shows bs (rowsOf (take (t .length) (t .rows))) nm (now r)) × (c ≡ false → now r ≡ [])) (id⊢ 𝓤 _) (λ r ns e₃.
+        fsplit ! $ move ! (1 ∷ []) $ fsplit ! $ move ! (1 ∷ []) $ fsplit ! $ move ! (1 ∷ []) $ fsplit ! $
+        move ! (1 ∷ []) $ move ! (5 ∷ []) $ split ! $ move ! (1 ∷ []) $
         peeks ! (ShrSlice (named 0) κbs u8) (Is (ShrSlice (named 0) κbs u8)) (shows 𝓤 H A (ShrSlice (named 0) κbs u8)) r (wr ∷ []) (λ r-is.
         land ! (from ! (stop !)) (init ! 31 refl (shr-slice-lawful 𝓤 H A W (named 0) κbs u8 .typed r _ r-is .0)) $
-        move ! (1 ∷ []) $
-        split ! $
-        move ! (8 ∷ 1 ∷ []) $
-        join ! $
-        move ! (1 ∷ 0 ∷ []) $
-        join ! $
+        move ! (1 ∷ []) $ split ! $ move ! (8 ∷ 1 ∷ []) $ join ! $ move ! (1 ∷ 0 ∷ []) $ join ! $
         returns ! (look ! 30 refl) $ forget ! 20 refl $ forget ! 22 refl $ forget ! 24 refl $ forget ! 26 refl $ forget ! 28 refl $ forget ! 30 refl $
         move ! (30 ∷ 31 ∷ []) $ free1 ! $ move ! (28 ∷ 29 ∷ []) $ free1 ! $ move ! (26 ∷ 27 ∷ []) $ free1 ! $ move ! (24 ∷ 25 ∷ []) $ free1 ! $ move ! (22 ∷ 23 ∷ []) $ free1 ! $ move ! (20 ∷ 21 ∷ []) $ free1 ! $ free0 ! $
         keep ! (0 ∷ 18 ∷ 12 ∷ 17 ∷ 1 ∷ []) $
-        by ! (exits r wr (shown-loaded ys bs nm (now r) t e₁ c e₂ e₃)))))))))))))))))))))))
+        by ! (exits r wr (shown-loaded ys bs nm (now r) t e₁ c e₂ e₃)))))))))))))))))
 
 module _ {M : Type 1} (𝓤 : URA M) (H : Heap 𝓤) (A : Atoms 𝓤) (W : Given 𝓤 H A) (mem : Memory → SProp 𝓤) (run : Routine → Fun 𝓤) where
   walks : (𝓣 : Tables 𝓤 H) → Triple 𝓤 (𝓣 .C #load) (To-load 𝓤 H A mem run) → Triple 𝓤 (𝓣 .C #rest-is-zero) (To-rest-is-zero 𝓤 H A mem run) → Triple 𝓤 (𝓣 .C #look-up-rows) (To-look-up-rows 𝓤 H A mem run) → Walks 𝓤 H A f.ended stayed (WpFn 𝓤 H (𝓣 .C) (𝓣 .Λ) code.function) (f.clauses 𝓤 H A mem run)

@@ -14,9 +14,9 @@ use prog.Memory.{Memory}
 use prog.Routine.{Routine}
 use prog.Wp.{Heap, Calls, Loops, WpFn, Tables}
 use ghost.Atoms.{Atoms}
-use contract.Monad.{Fun, fact}
+use contract.Monad.{Fun}
 use contract.Running.{givenOf, tables, tablesOf}
-use types.Kit.{Given, ‵, raw, later, some, _⊛_, ⋆, _$_, _∵_, !, qed, by, move, keep, split, join, use1, use2, pick, await, fsplit, fjoin, suffices, frame, done}
+use types.Kit.{Given, ‵, raw, _⊛_, ⋆, _$_, _∵_, !, qed, by, move, keep, split, join, use2, fsplit, fjoin, suffices, frame, done}
 use types.Run.{look, init, forget, stop, from, load, lit, and-then, no-more, land, returns, enter, alloc1, alloc0, params1, pass1, pass0, free1, free0}
 use sound.WpLaws.{fmOf, WpFn-mono}
 use denote.Exit.{yes}
@@ -25,14 +25,14 @@ use denote.Laws.{Is, shows}
 use denote.Plain.{uint-makes}
 use denote.Builtin.{u8, usize}
 use denote.Ref.{RefT, now}
-use denote.Slice.{sliceVal, ShrSlice, Room, slice-vals, shr-slice-tells, shr-slice-copy}
+use denote.Slice.{sliceVal, ShrSlice, Room, slice-vals, shr-slice-tells}
 use denote.Signature.{plain}
-use denote.Steps.{owned, peeks, heard, nothing}
+use denote.Steps.{owned, peeks, nothing}
 use denote.Triple.Entry.{onEntry}
 use denote.Triple.Spec.{Meets, tripleOf}
 use denote.Triple.Statement.{Contract, Triple}
 use denote.Triple.Call.{calls-at}
-use denote.Triple.Clauses.{ensured, lasts}
+use denote.Triple.Clauses.{lasts}
 use denote.Triple.Table.{entered, cited}
 use denote.Triple.Walked.{says, Stays, stay-none-slice, walkOf, Walks, ends-at, walked, goes-none-slice, walk-meets}
 use lib.Dec.{lit<}
@@ -45,6 +45,7 @@ use Rattle.pass.specs.declared.Answer.the-variants as answer
 use Rattle.records.specs.declared.Table.{Table}
 use Rattle.records.specs.Records.{noRecord, allNone, rowsOf}
 use Rattle.records.specs.Rows.{few, tabled}
+use Rattle.records.proofs.Calling.{doubles, answers}
 use Rattle.records.proofs.Rec.{Row, Tab, Tab-lawful, Tab-makes, Ans, Ans-lawful}
 use Rattle.records.proofs.Loaded.{loaded-fits}
 use Rattle.records.proofs.Passed.{passed-loaded}
@@ -123,104 +124,37 @@ module _ {M : Type 1} (𝓤 : URA M) (H : Heap 𝓤) (A : Atoms 𝓤) (W : Given
         qed W ((‵ (flft κbs qbs) ⊛ ‵ (flft κys qys) ⊛ ‵ ftrue) ∷ ‵ (owns (ShrSlice (named 0) κbs u8 ∷ ShrSlice (named 1) κys Row ∷ []) (xbs γbs bs, (xys γys ys, tt)) (sbs ∷ [], (sys ∷ [], tt))) ∷ []) ∵ enter ! C Λ code.function (sbs ∷ sys ∷ []) _ $
         alloc1 ! (λ l₀. alloc1 ! (λ l₁. alloc1 ! (λ l₂. alloc1 ! (λ l₃. alloc1 ! (λ l₄. alloc0 ! $ params1 ! $
         pass1 ! (init ! 6 refl (tt, (tt, (record { fits = bs-room .0 }, tt)))) $ pass1 ! (init ! 4 refl (tt, (tt, (record { fits = ys-room .0 }, tt)))) $ pass0 ! $
-        move ! (11 ∷ []) $
-        fsplit ! $
-        move ! (1 ∷ []) $
-        fsplit ! $
-        move ! (2 ∷ []) $
-        use1 W (‵ (ShrSlice (named 0) κbs u8 .own (xbs γbs bs) (sbs ∷ [])) ⊛ ‵ (ShrSlice (named 0) κbs u8 .own (xbs γbs bs) (sbs ∷ []))) (shr-slice-copy 𝓤 H A W (named 0) κbs u8 .twice (xbs γbs bs) (sbs ∷ [])) $
-        split ! $
-        move ! (2 ∷ []) $
-        use1 W (‵ (ShrSlice (named 1) κys Row .own (xys γys ys) (sys ∷ [])) ⊛ ‵ (ShrSlice (named 1) κys Row .own (xys γys ys) (sys ∷ []))) (shr-slice-copy 𝓤 H A W (named 1) κys Row .twice (xys γys ys) (sys ∷ [])) $
-        split ! $
-        move ! (15 ∷ []) $
-        split ! $
-        move ! (1 ∷ []) $
-        split ! $
-        nothing ! $
-        move ! (1 ∷ 0 ∷ []) $
-        join ! $
-        move ! (0 ∷ 3 ∷ []) $
+        move ! (11 ∷ []) $ fsplit ! $ move ! (1 ∷ []) $ fsplit ! $ move ! (2 ∷ []) $
+        doubles W ! (named 0) κbs u8 (xbs γbs bs) (sbs ∷ []) $ move ! (2 ∷ []) $
+        doubles W ! (named 1) κys Row (xys γys ys) (sys ∷ []) $ move ! (15 ∷ []) $ split ! $ move ! (1 ∷ []) $ split ! $ nothing ! $ move ! (1 ∷ 0 ∷ []) $
+        join ! $ move ! (0 ∷ 3 ∷ []) $
         use2 W (raw (To-load 𝓤 H A mem run .pre (((κys, tt), (qys, tt), tt, (xys γys ys, tt), (sys ∷ [], tt)), tt))) (goes-load) $
         calls-at ! (fmOf 𝓤 H (W .laws) 𝓣) (To-load 𝓤 H A mem run) known-load (((κys, tt), (qys, tt), tt, (xys γys ys, tt), (sys ∷ [], tt)), tt) (and-then ! (load ! (from ! (stop !)) (look ! 11 refl)) (no-more !)) (λ wt.
-        use1 W (later (some (λ (got : Table). ((‵ (flft (κys) qys) ⊛ ‵ ftrue) ⊛ ‵ (Tab .own got (wt ∷ []))) ⊛ raw (ensured 𝓤 H A load.ended (load.clauses 𝓤 H A mem run) (κys, tt) (xys γys ys, tt) tt got)))) (id⊢ 𝓤 _) $
-        await ! tt $ pick ! (λ t.
-        split ! $
-        move ! (1 ∷ []) $
-        use1 W (some (λ (ks : (Unit {0}) × (Unit {0})). ‵ (lasts load.ended (κys, tt) (xys γys ys, tt) ks) ⊛ raw (fact 𝓤 (t ≡ tabled (λ j. getD ys j noRecord) (few (length ys)))))) (id⊢ 𝓤 _) $
-        pick ! (λ ks.
-        split ! $
-        move ! (1 ∷ []) $
-        heard ! (t ≡ tabled (λ j. getD ys j noRecord) (few (length ys))) (λ e₁.
-        fsplit ! $
-        move ! (1 ∷ []) $
-        move ! (2 ∷ []) $
-        split ! $
-        move ! (1 ∷ []) $
+        answers W ! tt (‵ (flft (κys) qys) ⊛ ‵ ftrue) Tab wt (λ (ks : (Unit {0}) × (Unit {0})). lasts load.ended (κys, tt) (xys γys ys, tt) ks) (λ t ks. t ≡ tabled (λ j. getD ys j noRecord) (few (length ys))) (id⊢ 𝓤 _) (λ t ks e₁.
+        fsplit ! $ move ! (1 ∷ []) $ move ! (2 ∷ []) $ split ! $ move ! (1 ∷ []) $
         peeks ! Tab (Is Tab) (shows 𝓤 H A Tab) t (wt ∷ []) (λ t-is.
         land ! (from ! (stop !)) (init ! 12 refl (Tab-lawful 𝓤 H A W .typed t _ t-is .0)) $
         move ! (6 ∷ []) $
-        use1 W (‵ (ShrSlice (named 1) κys Row .own (xys γys ys) (sys ∷ [])) ⊛ ‵ (ShrSlice (named 1) κys Row .own (xys γys ys) (sys ∷ []))) (shr-slice-copy 𝓤 H A W (named 1) κys Row .twice (xys γys ys) (sys ∷ [])) $
-        split ! $
-        move ! (3 ∷ 0 ∷ []) $
+        doubles W ! (named 1) κys Row (xys γys ys) (sys ∷ []) $ move ! (3 ∷ 0 ∷ []) $
         use2 W (raw (To-rest-is-zero 𝓤 H A mem run .pre (((κys, tt), (qys, tt), tt, (xys γys ys, (256, tt)), (sys ∷ [], (vint w64 256 ∷ [], tt))), tt))) (goes-rest-is-zero) $
         calls-at ! (fmOf 𝓤 H (W .laws) 𝓣) (To-rest-is-zero 𝓤 H A mem run) known-rest-is-zero (((κys, tt), (qys, tt), tt, (xys γys ys, (256, tt)), (sys ∷ [], (vint w64 256 ∷ [], tt))), tt) (and-then ! (load ! (from ! (stop !)) (look ! 14 refl)) (and-then ! (lit ! tt) (no-more !))) (λ wc.
-        use1 W (later (some (λ (got : Bool). ((‵ (flft (κys) qys) ⊛ ‵ ftrue) ⊛ ‵ (bool .own got (wc ∷ []))) ⊛ raw (ensured 𝓤 H A rest-is-zero.ended (rest-is-zero.clauses 𝓤 H A mem run) (κys, tt) (xys γys ys, (256, tt)) tt got)))) (id⊢ 𝓤 _) $
-        await ! tt $ pick ! (λ c.
-        split ! $
-        move ! (1 ∷ []) $
-        use1 W (some (λ (ls : (Unit {0}) × ((Unit {0}) × (Unit {0}))). ‵ (lasts rest-is-zero.ended (κys, tt) (xys γys ys, (256, tt)) ls) ⊛ raw (fact 𝓤 (c ≡ allNone (dropL 256 ys))))) (id⊢ 𝓤 _) $
-        pick ! (λ ls.
-        split ! $
-        move ! (1 ∷ []) $
-        heard ! (c ≡ allNone (dropL 256 ys)) (λ e₂.
-        fsplit ! $
-        move ! (1 ∷ []) $
-        fsplit ! $
-        move ! (1 ∷ []) $
-        move ! (3 ∷ []) $
-        split ! $
-        move ! (1 ∷ []) $
+        answers W ! tt (‵ (flft (κys) qys) ⊛ ‵ ftrue) bool wc (λ (ls : (Unit {0}) × ((Unit {0}) × (Unit {0}))). lasts rest-is-zero.ended (κys, tt) (xys γys ys, (256, tt)) ls) (λ c ls. c ≡ allNone (dropL 256 ys)) (id⊢ 𝓤 _) (λ c ls e₂.
+        fsplit ! $ move ! (1 ∷ []) $ fsplit ! $ move ! (1 ∷ []) $ move ! (3 ∷ []) $ split ! $ move ! (1 ∷ []) $
         peeks ! bool (Is bool) (shows 𝓤 H A bool) c (wc ∷ []) (λ c-is.
         land ! (from ! (stop !)) (init ! 14 refl (bool-lawful 𝓤 H A W .typed c _ c-is .0)) $
-        move ! (1 ∷ []) $
-        split ! $
-        nothing ! $
-        move ! (12 ∷ 0 ∷ []) $
-        join ! $
-        move ! (0 ∷ 12 ∷ []) $
+        move ! (1 ∷ []) $ split ! $ nothing ! $ move ! (12 ∷ 0 ∷ []) $ join ! $ move ! (0 ∷ 12 ∷ []) $
         use2 W (raw (To-pass-rows 𝓤 H A mem run .pre (((κbs, tt), (qbs, tt), tt, (xbs γbs bs, (t, (c, tt))), (sbs ∷ [], (wt ∷ [], (wc ∷ [], tt)))), tt))) (goes-pass-rows t wt t-is c wc c-is (loaded-fits ys t e₁)) $
         calls-at ! (fmOf 𝓤 H (W .laws) 𝓣) (To-pass-rows 𝓤 H A mem run) known-pass-rows (((κbs, tt), (qbs, tt), tt, (xbs γbs bs, (t, (c, tt))), (sbs ∷ [], (wt ∷ [], (wc ∷ [], tt)))), tt) (and-then ! (load ! (from ! (stop !)) (look ! 20 refl)) (and-then ! (load ! (from ! (stop !)) (look ! 16 refl)) (and-then ! (load ! (from ! (stop !)) (look ! 14 refl)) (no-more !)))) (λ wr.
-        use1 W (later (some (λ (got : Answer). ((‵ (flft (κbs) qbs) ⊛ ‵ ftrue) ⊛ ‵ (Ans .own got (wr ∷ []))) ⊛ raw (ensured 𝓤 H A pass-rows.ended (pass-rows.clauses 𝓤 H A mem run) (κbs, tt) (xbs γbs bs, (t, (c, tt))) tt got)))) (id⊢ 𝓤 _) $
-        await ! tt $ pick ! (λ r.
-        split ! $
-        move ! (1 ∷ []) $
-        use1 W (some (λ (ns : (Unit {0}) × ((Unit {0}) × ((Unit {0}) × (Unit {0})))). ‵ (lasts pass-rows.ended (κbs, tt) (xbs γbs bs, (t, (c, tt))) ns) ⊛ raw (fact 𝓤 ((c ≡ true → Passes bs (rowsOf (take (t .length) (t .rows))) r) × (c ≡ false → r ≡ answer.Foreign))))) (id⊢ 𝓤 _) $
-        pick ! (λ ns.
-        split ! $
-        move ! (1 ∷ []) $
-        heard ! ((c ≡ true → Passes bs (rowsOf (take (t .length) (t .rows))) r) × (c ≡ false → r ≡ answer.Foreign)) (λ e₃.
-        fsplit ! $
-        move ! (1 ∷ []) $
-        fsplit ! $
-        move ! (1 ∷ []) $
-        fsplit ! $
-        move ! (1 ∷ []) $
-        move ! (4 ∷ []) $
-        split ! $
-        move ! (1 ∷ []) $
+        answers W ! tt (‵ (flft (κbs) qbs) ⊛ ‵ ftrue) Ans wr (λ (ns : (Unit {0}) × ((Unit {0}) × ((Unit {0}) × (Unit {0})))). lasts pass-rows.ended (κbs, tt) (xbs γbs bs, (t, (c, tt))) ns) (λ r ns. (c ≡ true → Passes bs (rowsOf (take (t .length) (t .rows))) r) × (c ≡ false → r ≡ answer.Foreign)) (id⊢ 𝓤 _) (λ r ns e₃.
+        fsplit ! $ move ! (1 ∷ []) $ fsplit ! $ move ! (1 ∷ []) $ fsplit ! $ move ! (1 ∷ []) $ move ! (4 ∷ []) $
+        split ! $ move ! (1 ∷ []) $
         peeks ! Ans (Is Ans) (shows 𝓤 H A Ans) r (wr ∷ []) (λ r-is.
         land ! (from ! (stop !)) (init ! 27 refl (Ans-lawful 𝓤 H A W .typed r _ r-is .0)) $
-        move ! (1 ∷ []) $
-        split ! $
-        move ! (7 ∷ 1 ∷ []) $
-        join ! $
-        move ! (1 ∷ 0 ∷ []) $
-        join ! $
+        move ! (1 ∷ []) $ split ! $ move ! (7 ∷ 1 ∷ []) $ join ! $ move ! (1 ∷ 0 ∷ []) $ join ! $
         returns ! (look ! 26 refl) $ forget ! 18 refl $ forget ! 20 refl $ forget ! 22 refl $ forget ! 24 refl $ forget ! 26 refl $
         move ! (26 ∷ 27 ∷ []) $ free1 ! $ move ! (24 ∷ 25 ∷ []) $ free1 ! $ move ! (22 ∷ 23 ∷ []) $ free1 ! $ move ! (20 ∷ 21 ∷ []) $ free1 ! $ move ! (18 ∷ 19 ∷ []) $ free1 ! $ free0 ! $
         keep ! (0 ∷ 16 ∷ 11 ∷ 1 ∷ []) $
-        by ! (exits r wr (passed-loaded ys bs r t e₁ c e₂ e₃))))))))))))))))))))))
+        by ! (exits r wr (passed-loaded ys bs r t e₁ c e₂ e₃))))))))))))))))
 
 module _ {M : Type 1} (𝓤 : URA M) (H : Heap 𝓤) (A : Atoms 𝓤) (W : Given 𝓤 H A) (mem : Memory → SProp 𝓤) (run : Routine → Fun 𝓤) where
   walks : (𝓣 : Tables 𝓤 H) → Triple 𝓤 (𝓣 .C #load) (To-load 𝓤 H A mem run) → Triple 𝓤 (𝓣 .C #rest-is-zero) (To-rest-is-zero 𝓤 H A mem run) → Triple 𝓤 (𝓣 .C #pass-rows) (To-pass-rows 𝓤 H A mem run) → Walks 𝓤 H A f.ended stayed (WpFn 𝓤 H (𝓣 .C) (𝓣 .Λ) code.function) (f.clauses 𝓤 H A mem run)

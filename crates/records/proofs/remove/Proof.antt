@@ -148,8 +148,7 @@ module _ {M : Type 1} (𝓤 : URA M) (H : Heap 𝓤) (A : Atoms 𝓤) (W : Given
         rewrite ! 10 (λ (p : ℕ). ‵ (fat fullShare tyPtr l₁₂ 0 (vptr b p))) (sym (place-rec o (i .0))) refl $
         elem-out ! Row (Is Row) (shows 𝓤 H A Row) vals tells fullShare (reached (i .0)) (i .0) noRecord b o i-in (λ _.
         assigns ! (of-opd ! (load ! (from ! (stop !)) (look ! 16 refl))) (from ! (hop ! (look ! 12 refl) (stop !))) (store-raw ! 0 refl (lawful 𝓤 H A W .typed (getD (reached (i .0)) (i .0 + 1) noRecord) _ g .0)) $
-        move ! (1 ∷ []) $
-        drop ! $
+        move ! (1 ∷ []) $ drop ! $
         owned ! Row (Is Row) (makes 𝓤 H A W) (getD (reached (i .0)) (i .0 + 1) noRecord) _ g $
         move ! (1 ∷ 0 ∷ []) $
         elem-put ! Row fullShare (reached (i .0)) (i .0) (getD (reached (i .0)) (i .0 + 1) noRecord) (vals (getD (reached (i .0)) (i .0 + 1) noRecord)) b o i-in $
@@ -174,8 +173,7 @@ module _ {M : Type 1} (𝓤 : URA M) (H : Heap 𝓤) (A : Atoms 𝓤) (W : Given
         rewrite ! 4 (λ (p : ℕ). ‵ (fat fullShare tyPtr l₁₅ 0 (vptr b p))) (sym (place-rec o (n - 1))) refl $
         elem-out ! Row (Is Row) (shows 𝓤 H A Row) vals tells fullShare (reached (i .0)) (n - 1) noRecord b o here (λ _.
         assigns ! (of-opd ! (load ! (from ! (stop !)) (look ! 10 refl))) (from ! (hop ! (look ! 6 refl) (stop !))) (store-raw ! 0 refl (lawful 𝓤 H A W .typed noRecord _ zero-is .0)) $
-        move ! (1 ∷ []) $
-        drop ! $
+        move ! (1 ∷ []) $ drop ! $
         owned ! Row (Is Row) (makes 𝓤 H A W) noRecord _ zero-is $
         move ! (1 ∷ 0 ∷ []) $
         elem-put ! Row fullShare (reached (i .0)) (n - 1) noRecord (vals noRecord) b o here $
@@ -193,13 +191,7 @@ module _ {M : Type 1} (𝓤 : URA M) (H : Heap 𝓤) (A : Atoms 𝓤) (W : Given
       pass1 ! (init ! 28 refl (tt, (tt, (record { fits = room .0 }, tt)))) $ pass1 ! (init ! 26 refl (tt, record { fits = n-fits })) $ pass1 ! (init ! 24 refl (tt, record { fits = k-fits })) $ pass0 ! $
       assigns ! (bin ! (load ! (from ! (stop !)) (look ! 26 refl)) (lit ! tt) (omega arith)) (from ! (stop !)) (init ! 22 refl (tt, record { fits = last-fits })) $
       assigns ! (of-opd ! (load ! (from ! (stop !)) (look ! 24 refl))) (from ! (stop !)) (init ! 20 refl (tt, record { fits = k-fits })) $
-      move ! (33 ∷ []) $
-      fsplit ! $
-      fsplit ! $
-      move ! (1 ∷ []) $
-      fsplit ! $
-      move ! (36 ∷ []) $
-      split ! $
+      move ! (33 ∷ []) $ fsplit ! $ fsplit ! $ move ! (1 ∷ []) $ fsplit ! $ move ! (36 ∷ []) $ split ! $
       move ! (2 ∷ 3 ∷ 0 ∷ []) $
       opens-slice ! tt Row ys b o $
       rewrite ! 0 (λ (zs : List Record). ‵ (row Row fullShare zs b o)) (sym (closing-start ys k noRecord)) refl $

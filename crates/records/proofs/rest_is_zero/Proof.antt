@@ -19,9 +19,9 @@ use prog.Memory.{Memory}
 use prog.Routine.{Routine}
 use prog.Wp.{Heap, Out, Env, afterSeq, afterBlock, afterTurn, Calls, Loops, Wp, atReturn, WpFn, Tables}
 use ghost.Atoms.{Atoms}
-use contract.Monad.{Fun, fact}
+use contract.Monad.{Fun}
 use contract.Running.{givenOf, tables, tablesOf}
-use types.Kit.{Given, Item, Sq, runs, anyQ, atRet, ‵, raw, later, some, _⊛_, ⋆, _$_, _∵_, !, qed, by, move, keep, split, join, rewrite, use1, use2, pick, await, fsplit, fjoin, suffices, frame, done}
+use types.Kit.{Given, Item, Sq, runs, anyQ, atRet, ‵, raw, _⊛_, ⋆, _$_, _∵_, !, qed, by, move, keep, split, join, rewrite, use1, use2, fsplit, fjoin, suffices, frame, done}
 use types.Part.{whole, sub, look-in}
 use types.Run.{look, init, store, forget, stop, fld, from, load, lit, of-opd, and-then, no-more, bin, assigns, assigns-last, land, first, blocks, stays, leaves-loop, exec, again, loops, Below, returns, enter, alloc1, alloc0, params1, pass1, pass0, free1, free0}
 use sound.WpLaws.{fmOf, WpFn-mono}
@@ -32,14 +32,14 @@ use denote.Memory.{pointee}
 use denote.Plain.{uint-makes, uint-vals, uint-tells}
 use denote.Builtin.{usize}
 use denote.Ref.{RefT, now}
-use denote.Slice.{sliceTy, sliceVal, ShrSlice, Room, slice-vals, shr-slice-tells, shr-slice-copy}
+use denote.Slice.{sliceTy, sliceVal, ShrSlice, Room, slice-vals, shr-slice-tells}
 use denote.Signature.{plain}
-use denote.Steps.{owned, peeks, heard, nothing, only}
+use denote.Steps.{owned, peeks, nothing, only}
 use denote.Triple.Entry.{onEntry}
 use denote.Triple.Spec.{Meets, tripleOf}
 use denote.Triple.Statement.{Contract, Triple}
 use denote.Triple.Call.{calls-at}
-use denote.Triple.Clauses.{ensured, lasts}
+use denote.Triple.Clauses.{lasts}
 use denote.Triple.Table.{entered, cited}
 use denote.Triple.Walked.{says, Stays, stay-none-slice, stay-none, walkOf, Walks, ends-at, walked, goes-none-slice, goes-none, walk-meets}
 use mathlib.Core.Bool.{_&&_}
@@ -50,6 +50,7 @@ use denote.Plain.{bool-tells, bool-lawful, bool-makes}
 use Rattle.records.specs.declared.Record.{Record}
 use Rattle.records.specs.Records.{noRecord, isNone, allNone}
 use Rattle.records.proofs.Record.Laws.{mir as Cell}
+use Rattle.records.proofs.Calling.{doubles, answers}
 use Rattle.records.proofs.Rec.{Row, makes, lawful}
 use Rattle.records.proofs.Turns.{zero-turn, zero-last}
 use Rattle.records.proofs.read as read
@@ -142,61 +143,25 @@ module _ {M : Type 1} (𝓤 : URA M) (H : Heap 𝓤) (A : Atoms 𝓤) (W : Given
           rewrite ! 2 (λ (y : Bool). ‵ (fat fullShare tyBool l₇ 0 (vbool y))) (test) refl $
           stays ! (load ! (from ! (stop !)) (look ! 2 refl)) $
           move ! (0 ∷ []) $
-          use1 W (‵ (ShrSlice (named 0) κys Row .own (xys γys ys) (sys ∷ [])) ⊛ ‵ (ShrSlice (named 0) κys Row .own (xys γys ys) (sys ∷ []))) (shr-slice-copy 𝓤 H A W (named 0) κys Row .twice (xys γys ys) (sys ∷ [])) $
-          split ! $
-          nothing ! $
-          move ! (3 ∷ 0 ∷ []) $
-          join ! $
-          move ! (0 ∷ 1 ∷ []) $
+          doubles W ! (named 0) κys Row (xys γys ys) (sys ∷ []) $ nothing ! $ move ! (3 ∷ 0 ∷ []) $ join ! $ move ! (0 ∷ 1 ∷ []) $
           use2 W (raw (To-read 𝓤 H A mem run .pre (((κys, tt), (qys, tt), tt, (xys γys ys, ((i .0), tt)), (sys ∷ [], (vint w64 (i .0) ∷ [], tt))), tt))) (goes-read (i .0) i-fits less) $
           calls-at ! (fmOf 𝓤 H (W .laws) 𝓣) (To-read 𝓤 H A mem run) known-read (((κys, tt), (qys, tt), tt, (xys γys ys, ((i .0), tt)), (sys ∷ [], (vint w64 (i .0) ∷ [], tt))), tt) (and-then ! (load ! (from ! (stop !)) (look ! 14 refl)) (and-then ! (load ! (from ! (stop !)) (look ! 6 refl)) (no-more !))) (λ wr.
-          use1 W (later (some (λ (got : Record). ((‵ (flft (κys) qys) ⊛ ‵ ftrue) ⊛ ‵ (Row .own got (wr ∷ []))) ⊛ raw (ensured 𝓤 H A read.ended (read.clauses 𝓤 H A mem run) (κys, tt) (xys γys ys, ((i .0), tt)) tt got)))) (id⊢ 𝓤 _) $
-          await ! tt $ pick ! (λ r.
-          split ! $
-          move ! (1 ∷ []) $
-          use1 W (some (λ (ks : (Unit {0}) × ((Unit {0}) × (Unit {0}))). ‵ (lasts read.ended (κys, tt) (xys γys ys, ((i .0), tt)) ks) ⊛ raw (fact 𝓤 (r ≡ getD ys (i .0) noRecord)))) (id⊢ 𝓤 _) $
-          pick ! (λ ks.
-          split ! $
-          move ! (1 ∷ []) $
-          heard ! (r ≡ getD ys (i .0) noRecord) (λ e₁.
-          fsplit ! $
-          move ! (1 ∷ []) $
-          fsplit ! $
-          move ! (1 ∷ []) $
-          move ! (3 ∷ []) $
-          split ! $
-          move ! (1 ∷ []) $
+          answers W ! tt (‵ (flft (κys) qys) ⊛ ‵ ftrue) Row wr (λ (ks : (Unit {0}) × ((Unit {0}) × (Unit {0}))). lasts read.ended (κys, tt) (xys γys ys, ((i .0), tt)) ks) (λ r ks. r ≡ getD ys (i .0) noRecord) (id⊢ 𝓤 _) (λ r ks e₁.
+          fsplit ! $ move ! (1 ∷ []) $ fsplit ! $ move ! (1 ∷ []) $ move ! (3 ∷ []) $ split ! $ move ! (1 ∷ []) $
           peeks ! Row (Is Row) (shows 𝓤 H A Row) r (wr ∷ []) (λ r-is.
           land ! (from ! (stop !)) (init ! 8 refl (lawful 𝓤 H A W .typed r _ r-is .0)) $
-          move ! (1 ∷ []) $
-          split ! $
-          nothing ! $
-          move ! (0 ∷ []) $
+          move ! (1 ∷ []) $ split ! $ nothing ! $ move ! (0 ∷ []) $
           use1 W (raw (To-still-zero 𝓤 H A mem run .pre ((tt, tt, tt, ((i .1), (r, tt)), (vbool (i .1) ∷ [], (wr ∷ [], tt))), tt))) (goes-still-zero (i .1) r wr r-is) $
           calls-at ! (fmOf 𝓤 H (W .laws) 𝓣) (To-still-zero 𝓤 H A mem run) known-still-zero ((tt, tt, tt, ((i .1), (r, tt)), (vbool (i .1) ∷ [], (wr ∷ [], tt))), tt) (and-then ! (load ! (from ! (stop !)) (look ! 14 refl)) (and-then ! (load ! (from ! (stop !)) (look ! 10 refl)) (no-more !))) (λ wu.
-          use1 W (later (some (λ (got : Bool). ((‵ ftrue) ⊛ ‵ (bool .own got (wu ∷ []))) ⊛ raw (ensured 𝓤 H A still-zero.ended (still-zero.clauses 𝓤 H A mem run) tt ((i .1), (r, tt)) tt got)))) (id⊢ 𝓤 _) $
-          await ! tt $ pick ! (λ u.
-          split ! $
-          move ! (1 ∷ []) $
-          use1 W (some (λ (ls : (Unit {0}) × ((Unit {0}) × (Unit {0}))). ‵ (lasts still-zero.ended tt ((i .1), (r, tt)) ls) ⊛ raw (fact 𝓤 (u ≡ ((i .1) && isNone r))))) (id⊢ 𝓤 _) $
-          pick ! (λ ls.
-          split ! $
-          move ! (1 ∷ []) $
-          heard ! (u ≡ ((i .1) && isNone r)) (λ e.
-          fsplit ! $
-          move ! (1 ∷ []) $
-          fsplit ! $
-          move ! (1 ∷ []) $
-          move ! (3 ∷ []) $
-          split ! $
-          move ! (1 ∷ []) $
+          answers W ! tt (‵ ftrue) bool wu (λ (ls : (Unit {0}) × ((Unit {0}) × (Unit {0}))). lasts still-zero.ended tt ((i .1), (r, tt)) ls) (λ u ls. u ≡ ((i .1) && isNone r)) (id⊢ 𝓤 _) (λ u ls e.
+          fsplit ! $ move ! (1 ∷ []) $ fsplit ! $ move ! (1 ∷ []) $ move ! (3 ∷ []) $ split ! $ move ! (1 ∷ []) $
           peeks ! bool (Is bool) (shows 𝓤 H A bool) u (wu ∷ []) (λ u-is.
           land ! (from ! (stop !)) (store ! 18 refl (bool-lawful 𝓤 H A W .typed u _ u-is .0)) $
           rewrite ! 18 (λ (v : Val). ‵ (fat fullShare tyBool l₄ 0 v)) (ap only (bool-tells u _ u-is)) refl $
           assigns-last ! (bin ! (load ! (from ! (stop !)) (look ! 16 refl)) (lit ! tt) (record { fits = j-fits })) (from ! (stop !)) (store ! 16 refl (tt, record { fits = j-fits })) $
           forget ! 12 refl $ forget ! 14 refl $
           keep ! (11 ∷ 5 ∷ 12 ∷ 13 ∷ 14 ∷ 15 ∷ 16 ∷ 17 ∷ 18 ∷ 19 ∷ 20 ∷ 21 ∷ 22 ∷ 23 ∷ 24 ∷ 25 ∷ 26 ∷ 27 ∷ []) $
-          again ! Nearer At i (i .0 + 1, u, j-fits, ap (λ (c : Bool). c && allNone (dropL (i .0 + 1) ys)) (e ∙ ap (λ (z : Record). i .1 && isNone z) e₁) ∙ zero-turn ys (i .1) (i .0) less ∙ i .3) (omega arith)))))))))))
+          again ! Nearer At i (i .0 + 1, u, j-fits, ap (λ (c : Bool). c && allNone (dropL (i .0 + 1) ys)) (e ∙ ap (λ (z : Record). i .1 && isNone z) e₁) ∙ zero-turn ys (i .1) (i .0) less ∙ i .3) (omega arith)))))))
       turns i false test =
           let over : length ys ≤ i .0 = nltb→le (i .0) (length ys) (subst (λ (y : Bool). T (not y)) (sym test) tt) in
           assigns ! (bin ! (load ! (from ! (stop !)) (look ! 6 refl)) (load ! (from ! (stop !)) (look ! 10 refl)) tt) (from ! (stop !)) (init ! 2 refl (tt, tt)) $
@@ -213,10 +178,7 @@ module _ {M : Type 1} (𝓤 : URA M) (H : Heap 𝓤) (A : Atoms 𝓤) (W : Given
         assigns ! (of-opd ! (load ! (from ! (fld ! refl (stop !))) (look-in ! 12 (sub ! 1 refl (whole !))))) (from ! (stop !)) (init ! 8 refl (tt, record { fits = ys-room .0 })) $
         assigns ! (of-opd ! (true-lit !)) (from ! (stop !)) (init ! 6 refl (tt, tt)) $
         assigns ! (of-opd ! (load ! (from ! (stop !)) (look ! 10 refl))) (from ! (stop !)) (init ! 4 refl (tt, record { fits = k-fits })) $
-        move ! (17 ∷ []) $
-        fsplit ! $
-        move ! (18 ∷ []) $
-        split ! $
+        move ! (17 ∷ []) $ fsplit ! $ move ! (18 ∷ []) $ split ! $
         keep ! (2 ∷ 0 ∷ 4 ∷ 5 ∷ 6 ∷ 7 ∷ 8 ∷ 9 ∷ 10 ∷ 11 ∷ 12 ∷ 13 ∷ 14 ∷ 15 ∷ 16 ∷ 17 ∷ 18 ∷ 19 ∷ []) $
         first ! $ blocks ! $ loops ! 𝓣 Nearer Nearer-wf (At l₀ l₁ l₂ l₃ l₄ l₅ l₆ l₇) (λ i. turns l₀ l₁ l₂ l₃ l₄ l₅ l₆ l₇ i (ltb (i .0) (length ys)) refl) (k, true, k-fits, refl)
 

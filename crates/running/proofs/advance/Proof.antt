@@ -2,7 +2,7 @@
 -- Assumes nothing.
 use mathlib.Core.Path.{_∙_}
 use borrow.Author.Needs.{needs}
-use Rattle.running.specs.Standing.{bufs}
+use Rattle.steps.specs.Standing.{bufs}
 use Rattle.running.proofs.Advancing.{advance-ended}
 use Rattle.running.proofs.Reaching.{Reaches, read-lent, reached-going, reached-here, reached-halts, advance-on, advance-stopped}
 use Rattle.running.proofs.advance.Statement.{statement}
@@ -17,15 +17,14 @@ read c =
       going = c .before .before .before .before .before .before .before .before .before .before .before .before .before .before .before .before .before .before .before .pre .0;
       some-open = c .before .before .before .before .before .before .before .if1 .left;
       body-is = c .before .before .before .before .before .before .body-at .ensures;
-      stays = c .read-from .ensures .0;
-      reads = c .read-from .ensures .1;
+      reads = c .read-from .ensures;
     }
 
 end-run-requires : tie.Need-end-run-requires
 end-run-requires c κs = c .before .before .before .before .before .before .before .before .before .before .before .before .before .pre .0 .ok .blocks-are
 
 returns : tie.Need-returns
-returns c = λ x ms f h. advance-ended (c .before .before .before .before .before .before .before .before .before .before .before .before .before .before .args .limit) (c .end-run .result) (c .before .before .before .before .before .before .before .before .before .before .before .before .before .before .pre .0) (c .before .before .if1 .taken) (c .end-run .ensures) x ms h
+returns c = advance-ended (c .before .before .before .before .before .before .before .before .before .before .before .before .before .before .args .limit) (c .end-run .result) (c .before .before .before .before .before .before .before .before .before .before .before .before .before .before .pre .0) (c .before .before .if1 .taken) (c .end-run .ensures)
 
 body-at-requires : tie.Need-body-at-requires
 body-at-requires c κs = c .before .before .before .before .before .before .before .before .before .before .before .before .pre .0 .ok .file-in

@@ -2,7 +2,7 @@
 -- Assumes nothing.
 use mathlib.Core.Path.{refl}
 use borrow.Author.Needs.{needs}
-use Rattle.running.proofs.Usages.{run-ended, run-open}
+use Rattle.running.proofs.Advancing.{run-ended, run-open}
 use Rattle.running.proofs.end_run.Statement.{statement}
 use Rattle.running.proofs.end_run.Tie as tie
 

@@ -8,7 +8,7 @@ use Rattle.store.proofs.form_at.Statement.{statement}
 use Rattle.store.proofs.form_at.Tie as tie
 
 add-part-of : tie.Need-add-part-of
-add-part-of c = omega (arith, c .before .read .ensures .text-small, c .before .read .ensures .size-small)
+add-part-of c = omega (arith, c .before .read .ensures .small .text-small, c .before .read .ensures .small .size-small)
 
 returns : tie.Need-returns
 returns c ms h = c .part-of .ensures ∙ part-form (entry h (c .before .before .before .before .args .i) (c .before .before .before .before .pre)) (c .before .before .read .ensures)

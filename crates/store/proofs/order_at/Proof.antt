@@ -9,7 +9,7 @@ use Rattle.store.proofs.order_at.Statement.{statement}
 use Rattle.store.proofs.order_at.Tie as tie
 
 add-part-of : tie.Need-add-part-of
-add-part-of c = omega (arith, c .before .read .ensures .start-small, c .before .read .ensures .name-small)
+add-part-of c = omega (arith, c .before .read .ensures .small .start-small, c .before .read .ensures .small .name-small)
 
 returns : tie.Need-returns
 returns c ms h =

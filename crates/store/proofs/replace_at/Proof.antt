@@ -14,7 +14,7 @@ splice-requires : tie.Need-splice-requires
 splice-requires c κs = splice-room (c .before .before .before .before .before .before .before .before .pre) (c .before .before .before .before .read .ensures) (c .before .start-of .ensures)
 
 add-t16 : tie.Need-add-t16
-add-t16 c = omega (arith, c .before .before .before .before .before .before .before .read .ensures .start-small, text-within (c .before .before .before .before .before .before .before .before .before .before .before .pre .lent .form-of), form-small (c .before .before .before .before .before .before .before .before .before .before .before .pre))
+add-t16 c = omega (arith, c .before .before .before .before .before .before .before .read .ensures .small .start-small, text-within (c .before .before .before .before .before .before .before .before .before .before .before .pre .lent .form-of), form-small (c .before .before .before .before .before .before .before .before .before .before .before .pre))
 
 sub-shift : tie.Need-sub-shift
 sub-shift c = text-within (c .before .before .before .before .before .before .before .before .before .before .before .pre .lent .form-of)

@@ -11,7 +11,7 @@ returns : tie.Need-returns
 returns c ms b h = sym (ap (start ms) (c .if1 .taken) ∙ encode-none)
 
 add-result : tie.Need-add-result
-add-result c = omega (arith, c .before .read .ensures .text-small, c .before .read .ensures .size-small)
+add-result c = omega (arith, c .before .read .ensures .small .text-small, c .before .read .ensures .small .size-small)
 
 returns-2 : tie.Need-returns-2
 returns-2 c ms b h = end-is h (c .before .before .before .args .i) (c .before .before .if1 .left) (c .before .before .before .pre) (c .before .read .ensures)

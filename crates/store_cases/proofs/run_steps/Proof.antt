@@ -1,35 +1,28 @@
--- `store_cases::run_steps` meets its contract: the buffers hold macros between two steps.
+-- `store_cases::run_steps` is safe and ends: the buffers hold macros between two steps.
 -- Assumes nothing.
 use borrow.Author.Needs.{needs}
-use native.Mathlib.Omega.{arith}
 use Prim.Native.Nat.{_-_}
-use mathlib.Core.List.{[]}
+use mathlib.Core.Path.{_≡_}
 use lib.ListN.{length}
-use Rattle.script.proofs.Steps.{Running}
+use Rattle.store_cases.specs.Kept.{Kept}
+use Rattle.store_cases.proofs.Steps.{emptied}
 use Rattle.store_cases.proofs.run_steps.Statement.{statement}
 use Rattle.store_cases.proofs.run_steps.Tie as tie
 
 abbrev Inv-loop : tie.InvT-loop
-Inv-loop s at bytes₀ records₀ name₀ work₀ form₀ i₀ count₀ bytes records name work form i count = Running bytes₀ records₀ name₀ work₀ form₀ bytes records name work form count
+Inv-loop s at bytes₀ records₀ i₀ count₀ bytes records i count = (length bytes ≡ length bytes₀) × (length records ≡ length records₀) × Kept bytes records count
 
 abbrev μ-loop : tie.MeasureT-loop
-μ-loop s at bytes₀ records₀ name₀ work₀ form₀ i₀ count₀ bytes records name work form i count = length s - i
+μ-loop s at bytes₀ records₀ i₀ count₀ bytes records i count = length s - i
 
 loop-holds : tie.Need-loop-holds Inv-loop μ-loop
-loop-holds c = record { stored = record { macros = []; holds = c .before .before .before .zero-store .ensures }; few = omega arith; same-bytes = search needs; same-records = search needs; same-name = search needs; same-work = search needs; same-form = search needs }
-
-run-step-requires : tie.Need-run-step-requires Inv-loop μ-loop
-run-step-requires c κs = (search needs, search needs, search needs, record { small = search needs; few = search needs; stored = search needs; name-long = search needs; work-long = search needs; form-long = search needs })
-
-loop-again : tie.Need-loop-again Inv-loop μ-loop
-loop-again c = record { stored = c .before .before .before .before .before .before .before .before .before .before .before .run-step .ensures .0; few = c .before .before .before .before .before .before .before .before .before .before .before .run-step .ensures .1; same-bytes = search needs; same-records = search needs; same-name = search needs; same-work = search needs; same-form = search needs }
+loop-holds c = (search needs, search needs, emptied (c .before .before .before .zero-store .ensures))
 
 pub run-steps-spec : {M : Type 1} → statement M
 run-steps-spec =
     tie.close
     (tie.spec
     Inv-loop μ-loop (λ c κs. search needs) loop-holds (λ c. search needs) (λ c. search needs) (λ c. search needs)
+    (λ c. search needs) (λ c. search needs) (λ c κs. search needs) (λ c. search needs) (λ c κs. search needs)
     (λ c. search needs) (λ c. search needs) (λ c. search needs) (λ c. search needs) (λ c. search needs)
-    run-step-requires (λ c. search needs) (λ c. search needs) (λ c. search needs) (λ c. search needs)
-    (λ c. search needs) (λ c. search needs) (λ c. search needs) loop-again (λ c. search needs) (λ c. search needs)
-    (λ c. search needs) (λ c. search needs) (λ c. search needs) (λ c. search needs))
+    (λ c. search needs) (λ c. search needs) (λ c. search needs))

@@ -1,7 +1,7 @@
 -- How far a definition reaches: past tokens that nothing bars and that are no marks, then over a stored text to its end.
 -- Assumes nothing.
 use Prim.Native.Nat.{ℕ, zero, suc, _+_, _-_, _<_, _≤_}
-use mathlib.Core.Bool.{Bool, true, false, cond, not, _||_}
+use mathlib.Core.Bool.{Bool, true, false, cond, not}
 use mathlib.Core.List.{List, [], _∷_, _++_, append-nil}
 use mathlib.Core.Path.{_≡_, refl, sym, ap, _∙_}
 use native.Mathlib.Omega.{arith}
@@ -15,16 +15,15 @@ use Rattle.lex.specs.declared.Token.{Token}
 use Rattle.lex.proofs.Tests.{by-test, read-within}
 use Rattle.lex.proofs.Progress.{token-at, token-ends, token-within}
 use Rattle.lex.proofs.Listing.{tokens-out}
-use Rattle.storing.proofs.Reading.{define-next, text-next}
-use Rattle.afresh.specs.Judging.{barredGrave}
-use Rattle.afresh.specs.Unfit.{isUnfit, unfitIn, unfitText}
+use Rattle.storing.proofs.Reading.{define-next}
+use Rattle.afresh.specs.Unfit.{unfitIn, unfitText}
 use Rattle.definition.specs.Extents.{markOf, extentIn, barsOf}
 use Rattle.definition.specs.declared.Extent.{Extent}
 use Rattle.genuine.specs.Spelling.{spelled}
-use Rattle.genuine.proofs.Tests.{or-left, passed}
 use Rattle.genuine.proofs.Spelled.{Unmarked}
 use Rattle.genuine.proofs.Aligning.{nothing, Aligned, byte-within, newline-within, newline-slash, newline-next, newline-past}
 use Rattle.genuine.proofs.Turning.{fit-of, Taken, Turn, same, longer, token-turn}
+use Rattle.genuine.proofs.Texts.{Fine, fine}
 use Rattle.genuine.proofs.Breaking.{newline-token, slash-token, continuation-token}
 use Rattle.genuine.proofs.Standing.{Reads, reads-unmarked, reads-next}
 
@@ -75,19 +74,6 @@ ended-bars {s} {x} {w} h y l = go (h .mark)
     go : Late x (w .mark) → barsOf w y ≡ noFault
     go (none q) = rw (h .bars, q) (by-test (λ (f : Fault). f ≡ noFault) (leb y 0) (λ e. refl) (λ e. refl))
     go (late q) = rw (le-leb y (w .mark .place) (omega arith), h .bars)
-
--- a text that is not bad: its next token is fit, and what follows is not bad
-record Fine (w : List ℕ) (b : Bool) (u : Token) : Type 0 where
-  fit : isUnfit w b u ≡ false
-  rest : unfitIn w (marksAfter b u) (tokens (between inText (marksAfter b u)) w (u .end)) ≡ false
-
-fine : (w : List ℕ) (b : Bool) (i : ℕ) (u : Token) → u ≡ tokenAt (between inText b) w i → i < length w → unfitIn w b (tokens (between inText b) w i) ≡ false → Fine w b u
-unfolding unfitIn
-fine w b i u q l e =
-    let r = unfitIn w (marksAfter b u) (tokens (between inText (marksAfter b u)) w (u .end)) in
-    let p : cond (isUnfit w b u || barredGrave w u) true r ≡ false = rw (text-next b (between inText b) w i u refl q l) at e in
-    let h = passed (isUnfit w b u || barredGrave w u) r p in
-    record { fit = or-left (isUnfit w b u) (barredGrave w u) (h .0); rest = h .1 }
 
 module _ (s w : List ℕ) (x : ℕ) where
   -- the rest of the text, with any mark before it

@@ -29,11 +29,11 @@ use Rattle.genuine.proofs.Turning.{fit-of, Taken, Turn, same, longer, t
 use Rattle.genuine.proofs.Breaking.{newline-token, slash-token, continuation-token}
 
 -- a text that is not bad: its next token is fit, and what follows is not bad
-record Fine (w : List ℕ) (b : Bool) (u : Token) : Type 0 where
-  fit : isUnfit w b u ≡ false
-  rest : unfitIn w (marksAfter b u) (tokens (between inText (marksAfter b u)) w (u .end)) ≡ false
+pub record Fine (w : List ℕ) (b : Bool) (u : Token) : Type 0 where
+  pub fit : isUnfit w b u ≡ false
+  pub rest : unfitIn w (marksAfter b u) (tokens (between inText (marksAfter b u)) w (u .end)) ≡ false
 
-fine : (w : List ℕ) (b : Bool) (i : ℕ) (u : Token) → u ≡ tokenAt (between inText b) w i → i < length w → unfitIn w b (tokens (between inText b) w i) ≡ false → Fine w b u
+pub fine : (w : List ℕ) (b : Bool) (i : ℕ) (u : Token) → u ≡ tokenAt (between inText b) w i → i < length w → unfitIn w b (tokens (between inText b) w i) ≡ false → Fine w b u
 unfolding unfitIn
 fine w b i u q l e =
     let r = unfitIn w (marksAfter b u) (tokens (between inText (marksAfter b u)) w (u .end)) in

@@ -1,5 +1,4 @@
 // Files that are read: opened, and read whole into lent bytes.
-use messages::complain;
 use messages::first_line;
 use messages::say;
 
@@ -39,13 +38,4 @@ pub fn read_open(fd: i32, room: &mut [u8]) -> Got {
     }
     libc::close(fd);
     Got::Whole(n)
-}
-
-// What is wrong with a file that was not read whole.
-pub fn say_unread(path: &[u8], got: Got, full: &[u8]) {
-    match got {
-        Got::Whole(_) => {}
-        Got::Full => complain(path, full),
-        Got::Unread => fail_at(path),
-    }
 }

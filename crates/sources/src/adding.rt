@@ -1,8 +1,8 @@
 // Files and start macros added: bytes into the store, ranges into the tables.
 use inputs::Got;
+use inputs::fail_at;
 use inputs::open_input;
 use inputs::read_open;
-use inputs::say_unread;
 use libc::STDIN_FILENO;
 use messages::complain;
 use plan::ANGLED;
@@ -110,7 +110,7 @@ pub fn read_in(
         }
         Got::Full => complain_full(part_of(store, at, end)),
         Got::Unread => {
-            say_unread(part_of(store, at, end), got, b"");
+            fail_at(part_of(store, at, end));
             false
         }
     }

@@ -5,9 +5,9 @@ use crate::gathering::complain_long;
 use crate::gathering::range_at;
 use crate::gathering::set_range;
 use inputs::Got;
+use inputs::fail_at;
 use inputs::open_input;
 use inputs::read_open;
-use inputs::say_unread;
 use plan::USED;
 use plan::WORDS;
 use plan::get;
@@ -151,7 +151,7 @@ pub fn take_list(
         }
         Got::Full => complain_long(),
         Got::Unread => {
-            say_unread(part_of(line, at, end), got, b"");
+            fail_at(part_of(line, at, end));
             false
         }
     }

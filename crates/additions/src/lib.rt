@@ -1,4 +1,6 @@
 // A good definition stored (document 01).
+#![tactic(auto)]
+
 ghost use Rattle.std.specs.Prelude.{List, ◌≤◌, ◌<◌, length};
 ghost use Rattle.definition.specs.Definitions.{Macro, definition_at};
 ghost use Rattle.finding.specs.Buffers.{Holds};
@@ -12,7 +14,7 @@ use text::part_of;
 
 // A definition in a text, read and stored: the number of macros then and its end; or barred by 2 to 6 at a place; or bad (11);
 // or there is no room for it (12).
-#[derive(Drop)]
+#[derive(Clone, Copy)]
 pub enum ReadIn {
     Done(usize, usize),
     Barred(usize, usize),

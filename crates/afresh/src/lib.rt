@@ -1,4 +1,6 @@
 // A stored text or default read afresh, one byte at a time, and what makes it bad (document 01, "Bad definition").
+#![tactic(auto)]
+
 ghost use Rattle.std.specs.Prelude.{◌≡◌, true, false, not, List, ℕ, ◌*◌, ◌≤◌, length};
 ghost use Rattle.reader_state.specs.States.{in_solid, in_doubt, in_line, in_accent, in_slanted, in_twice, in_tick, in_run, in_string, is_string, in_marked, in_short, outside, next, leaves, ended};
 ghost use Rattle.reader_state.specs.Feeding.{state_of, Sound, FedBy};
@@ -11,7 +13,7 @@ use reader_state::{
     read_fresh, read_word, start_name,
 };
 
-#[derive(Drop)]
+#[derive(Clone, Copy)]
 pub enum Verdict {
     Bad,
     Good,

@@ -1,4 +1,6 @@
 // What the command answers once files are flattened: outputs, a refusal, warnings, pass, look up. Each answer is a digit.
+#![tactic(auto)]
+
 use classify::Classified;
 use delivery::deliver;
 use flattened::Flattened;
@@ -211,7 +213,7 @@ fn finish_with(
 }
 
 // What a flattening leaves: the digit, and the macro records.
-#[derive(Drop)]
+#[derive(Clone, Copy)]
 pub struct Left {
     pub digit: u8,
     pub records: [Record; 4096],

@@ -1,4 +1,6 @@
 // Bytes put behind the first of a lent buffer: one, a length, a part, a part with its length, a default with its mark (document 01, "Stored form").
+#![tactic(auto)]
+
 ghost use Rattle.std.specs.Prelude.{[], ◌∷◌, ◌≤◌, length};
 ghost use Rattle.std.proofs.Math.Option.{some};
 ghost use Rattle.text.specs.Bytes.{part};

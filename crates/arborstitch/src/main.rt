@@ -1,6 +1,8 @@
 // The technician's command: flattens the files that its arguments name. The wrapper `bin/arborstitch` runs it and exits with
 // what it answers on descriptor 3, one digit: 0 for a flat text, 1 for a refusal, 2 for bad usage or files that cannot be read or
 // written.
+#![tactic(auto)]
+
 use messages::WRAPPER;
 use session::answer;
 

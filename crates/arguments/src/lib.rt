@@ -1,5 +1,7 @@
 // Argument lists (document 01, "Replacing"): sought in the pending list, or in the file for the first usage. An argument is four
 // numbers: from where to before where it stands there, and in the replacement; `1, 0` as long as it was not put in place.
+#![tactic(auto)]
+
 ghost use Rattle.std.specs.Prelude.{◌≡◌, [], ◌∷◌, ◌*◌, ◌<◌, ◌≤◌, length, set};
 ghost use Rattle.brackets.specs.Stacks.{stack_of};
 ghost use Rattle.pending.specs.Pending.{byte_view, kind_view, view};
@@ -15,7 +17,7 @@ use pending::{Item, Seen, first_byte, is_blank, item_at, name_of};
 
 // What a token does in a list: a part of the argument, with so many closing brackets due behind it; ends the argument; ends
 // the list; refused, with the place of 2 to 6.
-#[derive(Drop)]
+#[derive(Clone, Copy)]
 pub enum Move {
     Keep(usize),
     Part,
@@ -24,14 +26,14 @@ pub enum Move {
 }
 
 // Behind the `(`, or refused.
-#[derive(Drop)]
+#[derive(Clone, Copy)]
 pub enum Opened {
     At(usize),
     Refused(usize, usize),
 }
 
 // How many arguments a list has, and where it ends; or refused, with the place of 2 to 6.
-#[derive(Drop)]
+#[derive(Clone, Copy)]
 pub enum Sought {
     List(usize, usize),
     Refused(usize, usize),

@@ -1,16 +1,18 @@
 // Conditional blocks (document 01, "Directives"): the open conditionals in a lent buffer.
+#![tactic(auto)]
+
 ghost use Rattle.std.specs.Prelude.{◌≡◌, Bool, true, false, [], ◌∷◌, ◌-◌, ◌<◌, get_or};
 ghost use Rattle.blocks.specs.Blocks.{open_block, next_block, close_block};
 ghost use Rattle.blocks.specs.Stacks.{blank_block, flag, open_in, BlocksIn, ChangedBy};
 
 // How many conditionals are open, and whether text is taken.
-#[derive(Drop)]
+#[derive(Clone, Copy)]
 pub struct Blocks {
     pub open: usize,
     pub taken: bool,
 }
 
-#[derive(Drop)]
+#[derive(Clone, Copy)]
 pub enum Changed {
     To(Blocks),
     Refused,

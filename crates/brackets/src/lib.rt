@@ -1,11 +1,13 @@
 // Brackets in a default (document 01, "Macros"): the closing ones due, innermost first, in lent bytes, four in a byte.
+#![tactic(auto)]
+
 ghost use Rattle.std.specs.Prelude.{◌≡◌, List, [], ◌∷◌, ℕ, ◌*◌, ◌≤◌, ◌<◌, length};
 ghost use Rattle.brackets.specs.Steps.{closing, on, step_of};
 ghost use Rattle.brackets.specs.Stacks.{digit_of, bracket_of, level_of, stack_of, SteppedBy};
 ghost use Rattle.brackets.specs.Stacks.{weight as weight_of};
 
 // What a byte does in a default: closing brackets due then, or the default's end, or none fits, or no room.
-#[derive(Drop)]
+#[derive(Clone, Copy)]
 pub enum Stepped {
     On(usize),
     Done,

@@ -1,5 +1,7 @@
 // A usage before it is replaced (document 01, "Replacing"): whether a token is one, the macro that it names, and how the
 // replacements are counted.
+#![tactic(auto)]
+
 ghost use Rattle.std.specs.Prelude.{◌≡◌, List, ◌<◌, ◌≤◌};
 ghost use Rattle.definition.specs.Definitions.{Macro};
 ghost use Rattle.sets.specs.Sets.{members};
@@ -20,7 +22,7 @@ use sets::MacroSet;
 use writing::Spot;
 
 // Where an expansion stands: how many tokens are pending, the replacements and the deepest set so far, where writing stands.
-#[derive(Drop)]
+#[derive(Clone, Copy)]
 pub struct Stand {
     pub depth: usize,
     pub count: usize,
@@ -29,7 +31,7 @@ pub struct Stand {
 }
 
 // A macro by its number, or 13 or 16.
-#[derive(Drop)]
+#[derive(Clone, Copy)]
 pub enum Called {
     Macro(usize),
     Refused(usize),

@@ -1,4 +1,6 @@
 // Small tests of names, stored texts, bytes and records, of which the test of a whole store is made.
+#![tactic(auto)]
+
 ghost use Rattle.std.specs.Prelude.{◌≡◌, drop};
 ghost use Rattle.text.specs.Order.{order_of};
 ghost use Rattle.checks.specs.Checks.{is_short, all_solid, all_run, is_trimmed, is_less, all_zero, all_blank, ends_there};
@@ -9,7 +11,7 @@ use packed::{Record, read};
 use text::{Order, compare};
 
 // The number of macros that a store holds, or that no definitions leave it.
-#[derive(Drop)]
+#[derive(Clone, Copy)]
 pub enum Checked {
     Left(usize),
     Foreign,

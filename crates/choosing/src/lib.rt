@@ -1,4 +1,6 @@
 // Conditional words (document 01, "Directives"): which blocks are open, and whether text is taken, behind one.
+#![tactic(auto)]
+
 ghost use Rattle.std.specs.Prelude.{◌≡◌, false, eqb};
 ghost use Rattle.names.specs.Names.{Else, Endif};
 ghost use Rattle.entries.specs.Entries.{Stored};
@@ -13,7 +15,7 @@ use lex::Token;
 use names::{ELSE, ELSIF, ENDIF, IFDEF};
 
 // The blocks open behind a word, and where it ends; or refused, with the place.
-#[derive(Drop)]
+#[derive(Clone, Copy)]
 pub enum Chosen {
     To(Blocks, usize),
     Refused(usize, usize),

@@ -1,4 +1,6 @@
 // Classify (document 01, "Reserved words"): the plain names of a text outside directives, reserved or not, for a C host.
+#![tactic(auto)]
+
 ghost use Rattle.std.specs.Prelude.{◌≡◌, ◌≤◌, length};
 ghost use Rattle.keywords.specs.Tables.{Tables};
 ghost use Rattle.listing.specs.Words.{words_of};
@@ -11,7 +13,7 @@ use places::line_at;
 // The answer: the refusal's number, or 0; its line from 1 and its byte from 0, both 0 for refusal 1 and where nothing
 // is refused; the words written.
 #[repr(C)]
-#[derive(Drop)]
+#[derive(Clone, Copy)]
 pub struct Classified {
     pub number: usize,
     pub line: usize,

@@ -1,4 +1,6 @@
 // The technician's command line: each of its words taken into the plan.
+#![tactic(auto)]
+
 mod taking;
 
 use options::{FILE, SHOW_HELP};

@@ -1,4 +1,6 @@
 // The condition of `ifdef`, `ifndef` and `elsif` (document 02, P1): a name, or names with operators in parentheses.
+#![tactic(auto)]
+
 ghost use Rattle.std.specs.Prelude.{◌≡◌, Bool, List, [], ◌∷◌, ◌<◌, ◌≤◌, length, drop};
 ghost use Rattle.text.specs.Bytes.{begins};
 ghost use Rattle.line_words.specs.Words.{word_start};
@@ -14,7 +16,7 @@ use line_words::word_start;
 use text::{part_of, peek};
 
 // A condition or a part of it: its value, and where it ends; or refused, with the place.
-#[derive(Drop)]
+#[derive(Clone, Copy)]
 pub enum Condition {
     Truth(bool, usize),
     Refused(usize, usize),

@@ -1,4 +1,6 @@
 // Tokens that are no directives and no usages (document 01: "All else is copied"), copied from a file or skipped in ignored text.
+#![tactic(auto)]
+
 ghost use Rattle.std.specs.Prelude.{◌≡◌, false, [], ◌∷◌, ℕ, ◌<◌, length};
 ghost use Rattle.places.specs.Places.{newlines};
 ghost use Rattle.writing.specs.Written.{placed};
@@ -12,14 +14,14 @@ use text::{part_of, peek};
 use writing::{Spot, Wrote, write_whole};
 
 // Where reading and writing stand before a token that is not copied; or there is no room for one.
-#[derive(Drop)]
+#[derive(Clone, Copy)]
 pub enum Copied {
     Upto(Cursor, Spot, Token),
     Full(Cursor, Spot, usize),
 }
 
 // Where reading stands before a token that is not skipped.
-#[derive(Drop)]
+#[derive(Clone, Copy)]
 pub struct Skipped {
     pub cursor: Cursor,
     pub token: Token,

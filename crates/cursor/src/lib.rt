@@ -1,4 +1,6 @@
 // Where a file is read, and where behind a token; bytes copied.
+#![tactic(auto)]
+
 ghost use Rattle.std.specs.Prelude.{◌≡◌, false, cond, not, ◌&&◌, ◌||◌, ◌+◌, ◌<◌, ◌≤◌, eqb, length};
 ghost use Rattle.std.proofs.lemmas.List.Edits.{sets};
 ghost use Rattle.lex.specs.Classes.{is_white};
@@ -11,7 +13,7 @@ use places::newlines_in;
 
 // Where a file is read: offset and line; whether other text than white bytes and comments stands before on the line; whether
 // the file ends in a copied `//` comment.
-#[derive(Drop)]
+#[derive(Clone, Copy)]
 pub struct Cursor {
     pub at: usize,
     pub line: usize,

@@ -1,4 +1,6 @@
 // Macros defined and undefined, and definitions in ignored text.
+#![tactic(auto)]
+
 ghost use Rattle.std.specs.Prelude.{◌≡◌, List, [], ℕ, ◌≤◌, length};
 ghost use Rattle.directive.specs.Forms.{undef_at};
 ghost use Rattle.definition.specs.Definitions.{definition_at};
@@ -46,7 +48,7 @@ pub fn define(
 }
 
 // Where a definition ends, good or bad; or what bars it, with the place.
-#[derive(Drop)]
+#[derive(Clone, Copy)]
 pub enum Hidden {
     To(usize),
     Barred(usize, usize),

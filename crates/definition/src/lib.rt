@@ -1,4 +1,6 @@
 // Whether a `define` is bad (document 01, "Macros"): its name, its formals, its macro text.
+#![tactic(auto)]
+
 ghost use Rattle.std.specs.Prelude.{◌≡◌, List, ℕ, ◌≤◌, length};
 ghost use Rattle.text.specs.Bytes.{part};
 ghost use Rattle.storing.specs.Stored.{stored};
@@ -21,7 +23,7 @@ use storing::has_grave;
 use text::{part_of, same};
 
 // A definition: barred by 2 to 6 at a place; bad (11) or good, with its end; or the lent bytes are too few to tell.
-#[derive(Drop)]
+#[derive(Clone, Copy)]
 pub enum Judged {
     Barred(usize, usize),
     Bad(usize),

@@ -1,4 +1,6 @@
 // Outputs written and put in place together: all whole, or none.
+#![tactic(auto)]
+
 use messages::complain;
 use output_files::{
     close_output, drop_output, is_repeatable, open_output, place_output, set_aside, stands,

@@ -1,4 +1,6 @@
 // The forms of the directives that stand on one line (document 01, "Directives").
+#![tactic(auto)]
+
 ghost use Rattle.std.specs.Prelude.{◌≡◌, ◌<◌, ◌+◌, length};
 ghost use Rattle.directive.specs.Include.{raw_end, behind_at, name_at, include_at};
 ghost use Rattle.directive.specs.Include.{line as includeLine};
@@ -19,7 +21,7 @@ use text::{holds_in, part_of};
 use timescale::{Read, timescale_form};
 
 // What a directive says.
-#[derive(Drop)]
+#[derive(Clone, Copy)]
 pub enum Value {
     Nothing,
     // time unit and precision as powers of ten, 1 fs is 0
@@ -38,7 +40,7 @@ pub enum Value {
 }
 
 // A directive of its form, with its end; an ill_formed one; or a token of it that 2 to 6 bar, with its place.
-#[derive(Drop)]
+#[derive(Clone, Copy)]
 pub enum Form {
     Formed(Value, usize),
     Unformed,
@@ -47,7 +49,7 @@ pub enum Form {
 
 // The name behind `undef`: from, end, without `\`, its end being the directive's; none; or a token that 2 to 6 bar, with its
 // place.
-#[derive(Drop)]
+#[derive(Clone, Copy)]
 pub enum MacroName {
     Named(usize, usize),
     Unnamed,
@@ -55,14 +57,14 @@ pub enum MacroName {
 }
 
 // Where a raw file name's `>` stands, and the refusal of a byte before it, or 0.
-#[derive(Drop)]
+#[derive(Clone, Copy)]
 pub enum Raw {
     Closed(usize, usize),
     Open,
 }
 
 // The name of an included file: from, end.
-#[derive(Drop)]
+#[derive(Clone, Copy)]
 pub enum FileName {
     Unnamed,
     Quoted(usize, usize),
@@ -70,7 +72,7 @@ pub enum FileName {
 }
 
 // An include's line read whole: what bars it, the name, the directive's end, whether other text stands behind it.
-#[derive(Drop)]
+#[derive(Clone, Copy)]
 pub struct IncludeLine {
     pub bars: Fault,
     pub file: FileName,

@@ -1,4 +1,6 @@
 // Which step a token asks for that is neither copied nor skipped and no conditional word.
+#![tactic(auto)]
+
 ghost use Rattle.std.specs.Prelude.{List, ℕ};
 ghost use Rattle.turns.specs.Acts.{taken_act, act_at};
 ghost use Rattle.reading.specs.Reading.{Halts};

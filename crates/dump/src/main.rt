@@ -1,5 +1,7 @@
 // The whole outcome of the files on standard input, in the printing program's form, up to 200,000 bytes. Arguments: the
 // lengths lent for text, map, records, macro bytes and words; the replacement limit; the starting keyword set; the root.
+#![tactic(auto)]
+
 use formats::least;
 use libc::{STDERR_FILENO, STDIN_FILENO};
 use options::{NO_NUMBER, number_of};

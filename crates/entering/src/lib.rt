@@ -1,4 +1,6 @@
 // Into an included file, and back out at its end.
+#![tactic(auto)]
+
 ghost use Rattle.std.specs.Prelude.{◌<◌, ◌≤◌, length};
 ghost use Rattle.directive.specs.Include.{include_at};
 ghost use Rattle.copying.specs.Copying.{Reads};

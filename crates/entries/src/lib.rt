@@ -1,4 +1,6 @@
 // A macro taken out, put in or replaced at its place in the lent buffers of a store.
+#![tactic(auto)]
+
 ghost use Rattle.std.specs.Prelude.{List, ◌+◌, ◌-◌, ◌≤◌, ◌<◌, length};
 ghost use Rattle.definition.specs.Definitions.{Macro};
 ghost use Rattle.finding.specs.Buffers.{Holds};

@@ -1,5 +1,7 @@
 // One usage in a file expanded to its end (document 01, "Replacing"): tokens of the pending list are written or replaced until
 // none is left.
+#![tactic(auto)]
+
 ghost use Rattle.std.specs.Prelude.{◌≡◌, List, ◌<◌, ◌≤◌, length};
 ghost use Rattle.definition.specs.Definitions.{Macro};
 ghost use Rattle.finding.specs.Buffers.{Holds};
@@ -17,7 +19,7 @@ use writing::{Spot, Wrote};
 
 // The answer: the refusal, or 0, with the place of 2 to 6; where the file goes on behind the usage and its list; the
 // replacements and the deepest set; where writing stands.
-#[derive(Drop)]
+#[derive(Clone, Copy)]
 pub struct Expanded {
     pub number: usize,
     pub place: usize,

@@ -1,4 +1,6 @@
 // What is at fault in one macro (document 01; demand 3): its first bad usage, or that it reaches itself.
+#![tactic(auto)]
+
 ghost use Rattle.std.specs.Prelude.{◌≡◌, false, cond, List, ◌∷◌, ◌<◌, ◌≤◌, length, drop};
 ghost use Rattle.std.proofs.Math.Option.{none, some};
 ghost use Rattle.definition.specs.Definitions.{Macro};
@@ -22,7 +24,7 @@ use unfolding::unfold_text;
 use usages::accept;
 
 // Nothing bars it, or this refusal.
-#[derive(Drop)]
+#[derive(Clone, Copy)]
 pub enum Verdict {
     Good,
     Bad(usize),

@@ -1,4 +1,6 @@
 // The bytes of a part, or of a string without each `\` before a newline, read afresh one after the other.
+#![tactic(auto)]
+
 ghost use Rattle.std.specs.Prelude.{false, [], length};
 ghost use Rattle.text.specs.Bytes.{part};
 ghost use Rattle.storing.specs.Stored.{joined_from, escape_of, given};

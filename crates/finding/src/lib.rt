@@ -1,5 +1,7 @@
 // A macro found by its name in the lent buffers of a store (document 01, "Macros"): stored forms packed in byte order of
 // names, and a record for each. Records are reached through the crate `packed` only.
+#![tactic(auto)]
+
 ghost use Rattle.std.specs.Prelude.{◌≡◌, List, ℕ, ◌≤◌, ◌<◌, length, take};
 ghost use Rattle.text.specs.Order.{order_of};
 ghost use Rattle.definition.specs.Definitions.{Macro};
@@ -12,7 +14,7 @@ use packed::read;
 use text::{Order, compare, part_of};
 
 // Where a name stands among the macros, or where it belongs.
-#[derive(Drop)]
+#[derive(Clone, Copy)]
 pub enum Found {
     At(usize),
     Missing(usize),

@@ -1,4 +1,6 @@
 // Flatten (document 01): files to one text with its map, the macros and the directive state, or one refusal.
+#![tactic(auto)]
+
 ghost use Rattle.std.specs.Prelude.{List, ℕ};
 ghost use Rattle.finding.specs.Buffers.{Holds};
 ghost use Rattle.starts.specs.Starting.{started};

@@ -1,4 +1,6 @@
 // The ends of a flattening (document 01): where its run starts, and the answer to where it ended.
+#![tactic(auto)]
+
 ghost use Rattle.std.specs.Prelude.{◌≡◌, List, ℕ};
 ghost use Rattle.definition.specs.Definitions.{Macro};
 ghost use Rattle.finding.specs.Buffers.{Holds};
@@ -17,7 +19,7 @@ use writing::Spot;
 
 // The answer: the refusal, or 0, with its place; the lengths of what stands in text, map, records and macro bytes; the
 // replacements and the deepest nesting; the directive state.
-#[derive(Drop)]
+#[derive(Clone, Copy)]
 pub struct Flattened {
     pub number: usize,
     pub file: usize,

@@ -1,4 +1,6 @@
 // The files flattened, with those that are found on the way.
+#![tactic(auto)]
+
 use flattened::Flattened;
 use own::Own;
 use plan::{ADDED, BROKEN, ENTRY, FILES, LIMIT, SET, STARTS, get, put};

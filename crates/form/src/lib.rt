@@ -1,4 +1,6 @@
 // Writes the stored form of a macro (document 01, "Stored form") from its definition.
+#![tactic(auto)]
+
 ghost use Rattle.std.specs.Prelude.{◌≡◌, List, ℕ, ◌≤◌, ◌<◌, length};
 ghost use Rattle.text.specs.Bytes.{part};
 ghost use Rattle.storing.specs.Stored.{stored};
@@ -14,7 +16,7 @@ use formals::{Formal, FormalRead, Head, ListRead, extent_at, formal_at, head_at,
 use storing::{Stored, store_text};
 
 // A stored form's length and where its text starts; or a buffer is too short; or the definition has no whole head.
-#[derive(Drop)]
+#[derive(Clone, Copy)]
 pub enum FormWritten {
     Upto(usize, usize),
     Short,

@@ -1,4 +1,6 @@
 // The words of the directives' forms, compared as fixed byte strings.
+#![tactic(auto)]
+
 ghost use Rattle.std.specs.Prelude.{◌≡◌};
 ghost use Rattle.form_words.specs.Tables.{unit_of, nettype_of, drive_of, version_of};
 

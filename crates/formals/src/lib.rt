@@ -1,4 +1,6 @@
 // A `define` as it is read (document 01, "Macros"): its extent, what bars it, its head and its formal list.
+#![tactic(auto)]
+
 ghost use Rattle.std.specs.Prelude.{◌≡◌, ◌*◌, ◌≤◌, length};
 ghost use Rattle.lex.specs.Faults.{no_fault};
 ghost use Rattle.brackets.specs.Stacks.{stack_of, SteppedBy, Settled};
@@ -16,7 +18,7 @@ use lex::{
 use text::peek;
 
 // How far a definition reaches, what bars it, and the first joiner or quote mark in it, which bars it outside macro text.
-#[derive(Drop)]
+#[derive(Clone, Copy)]
 pub struct Extent {
     pub end: usize,
     pub bars: Fault,
@@ -24,7 +26,7 @@ pub struct Extent {
 }
 
 // A definition's name, and whether a formal list starts at `next`, or else the macro text does.
-#[derive(Drop)]
+#[derive(Clone, Copy)]
 pub struct Head {
     pub whole: bool,
     pub from: usize,
@@ -34,7 +36,7 @@ pub struct Head {
 }
 
 // Where a default ends, and past the `,` or `)` that ends it.
-#[derive(Drop)]
+#[derive(Clone, Copy)]
 pub enum Ending {
     Upto(usize, usize),
     Torn,
@@ -42,7 +44,7 @@ pub enum Ending {
 }
 
 // A formal's name; its default, where one is given; the index past the `,` or `)` behind it; whether that is the `)`.
-#[derive(Drop)]
+#[derive(Clone, Copy)]
 pub struct Formal {
     pub from: usize,
     pub end: usize,
@@ -53,7 +55,7 @@ pub struct Formal {
     pub last: bool,
 }
 
-#[derive(Drop)]
+#[derive(Clone, Copy)]
 pub enum FormalRead {
     Whole(Formal),
     IllFormed,
@@ -61,7 +63,7 @@ pub enum FormalRead {
 }
 
 // The number of formals of a list and its end.
-#[derive(Drop)]
+#[derive(Clone, Copy)]
 pub enum ListRead {
     Whole(usize, usize),
     IllFormed,

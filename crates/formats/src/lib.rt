@@ -1,5 +1,7 @@
 // What programs print and read: numbers, bytes in hexadecimal, rows of numbers, a classification, what pass answers; fields of a
 // script.
+#![tactic(auto)]
+
 ghost use Rattle.std.specs.Prelude.{◌<◌, ◌≤◌, length};
 
 use classify::Classified;

@@ -1,4 +1,6 @@
 // Which macro stores definitions leave (document 01: "On a store that no definitions leave, look up shows an empty part").
+#![tactic(auto)]
+
 ghost use Rattle.std.specs.Prelude.{◌≡◌, [], ◌+◌, ◌≤◌, length};
 ghost use Rattle.text.specs.Bytes.{part};
 ghost use Rattle.packed.specs.Records.{Small};

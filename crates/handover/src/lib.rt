@@ -1,4 +1,6 @@
 // What is handed over to flatten (document 01, "Hand-over"): the include table over the byte store, and refusal 1.
+#![tactic(auto)]
+
 ghost use Rattle.std.specs.Prelude.{◌≡◌, length, get_or, ℕ, ◌<◌};
 ghost use Rattle.handover.specs.Entries.{blank_entry, entry_name, entry_body, is_name_byte, body_of, name_of, is_file_name, is_entry, all_entries, is_named, entry_of};
 ghost use Rattle.handover.specs.Sizes.{is_sound};

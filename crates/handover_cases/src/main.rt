@@ -2,6 +2,8 @@
 // to dump the whole outcome, 1 to print as the printing program does, with limit, set and root of its own; the lengths lent for
 // text, map, records, macro bytes and words; the replacement limit; the starting keyword set; the root; the length of the
 // input, in the printing program's form; then the input. A number is four bytes, low first.
+#![tactic(auto)]
+
 use formats::{least, number_at, say};
 use libc::STDIN_FILENO;
 use outcome::{dump_input, print_input};

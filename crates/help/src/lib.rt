@@ -1,4 +1,6 @@
 // What `arborstitch -h` and `--version` print.
+#![tactic(auto)]
+
 use outputs::say;
 
 fn print_usage() {

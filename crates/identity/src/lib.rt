@@ -1,4 +1,6 @@
 // Which file a path or a descriptor stands for: its device and inode, its kind, and where a link leads.
+#![tactic(auto)]
+
 ghost use Rattle.io.specs.Counts.{IsPrefixLen};
 ghost use Rattle.libc.specs.Io.{Ended};
 
@@ -8,7 +10,7 @@ use libc::types;
 const LAST: usize = 4095;
 
 // What a file is known by. Where `found` is false the other fields are 0.
-#[derive(Drop)]
+#[derive(Clone, Copy)]
 pub struct Identity {
     pub found: bool,
     pub device: u64,

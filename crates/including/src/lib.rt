@@ -1,4 +1,6 @@
 // Includes (document 01, "Directives"): which file is entered, or 7, 9, 10, or 2 to 6 of the line.
+#![tactic(auto)]
+
 ghost use Rattle.std.specs.Prelude.{◌≡◌, ◌&&◌, ◌||◌, ◌<◌, eqb, get_or};
 ghost use Rattle.text.specs.Bytes.{part};
 ghost use Rattle.directive.specs.Include.{include_at};
@@ -13,7 +15,7 @@ use lex::Token;
 use text::{part_of, peek};
 
 // The entry that is included, and where the directive ends; or refused, with the place.
-#[derive(Drop)]
+#[derive(Clone, Copy)]
 pub enum Entered {
     Into(usize, usize),
     Refused(usize, usize),

@@ -1,4 +1,6 @@
 // The printing program's input (document 01): names, bodies and macro names in three sections, each after a two-byte count.
+#![tactic(auto)]
+
 ghost use Rattle.std.specs.Prelude.{◌≡◌, List, ℕ, min, ◌+◌, ◌<◌, ◌≤◌, length};
 ghost use Rattle.input.specs.Sections.{rows, rows_at, name_at, body_at, start_at, with_names, input_of};
 ghost use Rattle.input.specs.Filling.{NamesIn, NamesBy, BodiesBy, StartsBy, ParsedBy};
@@ -6,14 +8,14 @@ ghost use Rattle.input.specs.Filling.{NamesIn, NamesBy, BodiesBy, StartsBy, Pars
 use text::{peek, two_at};
 
 // How many files and start macros of an input stand in the lent table and ranges; or it is not of the form.
-#[derive(Drop)]
+#[derive(Clone, Copy)]
 pub enum Parsed {
     Whole(usize, usize),
     Broken,
 }
 
 // Where a section ends, or that it is not of the form.
-#[derive(Drop)]
+#[derive(Clone, Copy)]
 pub enum Section {
     Upto(usize),
     Broken,

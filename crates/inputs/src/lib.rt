@@ -1,8 +1,10 @@
 // Files that are read: opened, and read whole into lent bytes.
+#![tactic(auto)]
+
 use messages::{first_line, say};
 
 // How many bytes were read; or there is no room for more; or they cannot be read.
-#[derive(Drop)]
+#[derive(Clone, Copy)]
 pub enum Got {
     Whole(usize),
     Full,

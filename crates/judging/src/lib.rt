@@ -1,4 +1,6 @@
 // Judges what a definition stores (document 01, "Bad definition"), read afresh as it is made, so that nothing is written down.
+#![tactic(auto)]
+
 ghost use Rattle.std.specs.Prelude.{◌≤◌, length};
 ghost use Rattle.brackets.specs.Stacks.{Settled};
 ghost use Rattle.storing.specs.Stored.{stored, trim_left, trim_right};

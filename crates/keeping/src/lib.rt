@@ -1,4 +1,6 @@
 // Directives that are copied as written and kept as state (document 01, "Directives").
+#![tactic(auto)]
+
 ghost use Rattle.std.specs.Prelude.{◌≡◌};
 ghost use Rattle.turns.specs.States.{Here};
 ghost use Rattle.turns.specs.Acts.{keep_act};
@@ -11,7 +13,7 @@ use text::part_of;
 use writing::{Spot, Wrote, write_whole};
 
 // The state and where writing stands behind a directive, and its end; or refused, with the place.
-#[derive(Drop)]
+#[derive(Clone, Copy)]
 pub enum Kept {
     To(Settings, Spot, usize),
     Refused(usize, usize),

@@ -2,7 +2,7 @@
 ghost use Rattle.keywords.specs.Letters.{StretchOf};
 
 // The words of the table from `from` to before `end`, and the length of the longest.
-#[derive(Drop)]
+#[derive(Clone, Copy)]
 pub struct Stretch {
     pub from: u8,
     pub end: u8,

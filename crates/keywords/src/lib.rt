@@ -1,6 +1,8 @@
 // The reserved words as one ascending table: their bytes, where each starts, and the first version that has it. A table
 // is built anew wherever its name is used, so a caller makes the three once and lends them. A word is looked for among
 // the words of its first letter.
+#![tactic(auto)]
+
 mod letters;
 
 ghost use Rattle.std.specs.Prelude.{◌≡◌, ◌<◌};

@@ -1,5 +1,7 @@
 // The operations on lent macro records as structs (document 01): "start, name length, text start, text length". Thin: flatten,
 // look up and pass are the core's, over rows of four numbers.
+#![tactic(auto)]
+
 ghost use Rattle.std.specs.Prelude.{◌≡◌, true, false, ◌&&◌, [], ◌<◌, ◌≤◌, length, get_or, take, drop};
 ghost use Rattle.look_up.specs.Looking.{Shows};
 ghost use Rattle.pass.specs.Answer.{Passes};
@@ -13,14 +15,14 @@ use pass::Answer;
 use records::{Record, clears_of, insert, read, remove};
 
 // The first `length` of these records, by value.
-#[derive(Drop)]
+#[derive(Clone, Copy)]
 struct Table {
     rows: [Record; 256],
     length: usize,
 }
 
 // What a flattening over rows leaves: its answer, the macros' records, and how many lent records are to be cleared.
-#[derive(Drop)]
+#[derive(Clone, Copy)]
 struct Kept {
     table: Table,
     clears: usize,

@@ -1,4 +1,6 @@
 // The token at a position of a text (document 01, "Tokens"), with the refusal 2 to 6 that bars it.
+#![tactic(auto)]
+
 ghost use Rattle.std.specs.Prelude.{◌≡◌, cond, ◌+◌, ◌-◌, ◌<◌, eqb, ltb, length};
 ghost use Rattle.lex.specs.Classes.{is_white, is_space, is_start, is_digit, is_run, is_sign, is_base, is_legal, is_span};
 ghost use Rattle.lex.specs.Scans.{scan, run_end, span_end, string_end, block_end};
@@ -10,7 +12,7 @@ ghost use Rattle.lex.specs.Tokens.{plain as plainToken, named as namedToken, sca
 use text::peek;
 
 // How a text is read.
-#[derive(Drop)]
+#[derive(Clone, Copy)]
 pub struct Mode {
     // a macro's text, in which a joiner and either quote mark are tokens
     pub text: bool,
@@ -57,7 +59,7 @@ pub const END: usize = 16;
 
 // A token from `at` to before `end`; its name, without grave accent and `\`, starts at `from`; `bar` is the refusal
 // 2 to 6 that bars it, or 0.
-#[derive(Drop)]
+#[derive(Clone, Copy)]
 pub struct Token {
     pub kind: usize,
     pub at: usize,
@@ -67,14 +69,14 @@ pub struct Token {
 }
 
 // A refusal and the place of the token that it bars; number 0: none.
-#[derive(Drop)]
+#[derive(Clone, Copy)]
 pub struct Fault {
     pub number: usize,
     pub place: usize,
 }
 
 // Where a scan ended, and the refusal found on the way, or 0.
-#[derive(Drop)]
+#[derive(Clone, Copy)]
 pub struct Scan {
     pub end: usize,
     pub bar: usize,

@@ -1,4 +1,6 @@
 // The words of a directive's line (document 01, "Directives").
+#![tactic(auto)]
+
 ghost use Rattle.std.specs.Prelude.{◌≡◌};
 ghost use Rattle.line_words.specs.Words.{is_between, word_start, word_at};
 
@@ -6,7 +8,7 @@ use lex::{BLOCK_COMMENT, END, NEWLINE, Token, in_file, is_gap, is_white, token_a
 use text::holds_in;
 
 // The next word on a directive's line; none; or a token before it that 2 to 6 bar, with its place.
-#[derive(Drop)]
+#[derive(Clone, Copy)]
 pub enum Word {
     Found(Token),
     Missing,

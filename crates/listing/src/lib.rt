@@ -1,4 +1,6 @@
 // The words of a text (document 01, "Reserved words"), listed in a lent list.
+#![tactic(auto)]
+
 ghost use Rattle.std.specs.Prelude.{◌≡◌, ◌≤◌, length};
 ghost use Rattle.keywords.specs.Tables.{Tables};
 ghost use Rattle.listing.specs.Listed.{Listed};
@@ -9,7 +11,7 @@ use past::Past;
 use word::word_of;
 
 // How a text was read: the refusal, or 0, with its place, and the words written.
-#[derive(Drop)]
+#[derive(Clone, Copy)]
 pub struct Ended {
     pub number: usize,
     pub place: usize,

@@ -1,4 +1,6 @@
 // Look up (document 01), over records as rows of four numbers.
+#![tactic(auto)]
+
 ghost use Rattle.std.specs.Prelude.{◌≡◌, List};
 ghost use Rattle.definition.specs.Definitions.{Macro};
 ghost use Rattle.finding.specs.Buffers.{Holds};

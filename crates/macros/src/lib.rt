@@ -1,4 +1,6 @@
 // A definition in a text, read and stored (document 01).
+#![tactic(auto)]
+
 ghost use Rattle.std.specs.Prelude.{List};
 ghost use Rattle.definition.specs.Definitions.{Macro, definition_at};
 ghost use Rattle.finding.specs.Buffers.{Holds};

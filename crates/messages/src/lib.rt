@@ -1,4 +1,6 @@
 // What the technician's command says of refusals: their place, the source line, what each number means.
+#![tactic(auto)]
+
 ghost use Rattle.std.specs.Prelude.{◌≤◌};
 
 use libc::STDERR_FILENO;

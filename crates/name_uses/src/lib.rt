@@ -1,4 +1,6 @@
 // Which tokens of a file name a macro to test or use it: names that conditional words test, and usages.
+#![tactic(auto)]
+
 use lex::{ESCAPED, GRAVE, NAME, NEWLINE, Token, is_byte, is_gap};
 use names::{ELSIF, IFDEF, IFNDEF};
 

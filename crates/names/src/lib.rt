@@ -1,4 +1,6 @@
 // The directive names, compared as fixed byte strings.
+#![tactic(auto)]
+
 ghost use Rattle.std.specs.Prelude.{◌≡◌};
 ghost use Rattle.names.specs.Names.{directive_of, state_of, other_of};
 

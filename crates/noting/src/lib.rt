@@ -1,4 +1,6 @@
 // The walk over the tokens of all files that notes their `include` lines and definitions.
+#![tactic(auto)]
+
 pub mod includes;
 pub mod notes;
 pub mod tallies;

@@ -21,7 +21,7 @@ pub const TOLD: u32 = 1;
 const FIRST: u32 = 2;
 
 // A part of a file.
-#[derive(Drop)]
+#[derive(Clone, Copy)]
 pub struct Range {
     pub from: usize,
     pub end: usize,

@@ -1,4 +1,6 @@
 // The words of the technician's command line: commands, options, numbers, keyword sets.
+#![tactic(auto)]
+
 use form_words::version_of;
 use places::quote;
 use text::{begins_at, part_of, peek, same};
@@ -74,7 +76,7 @@ pub const SHOW_VERSION: usize = 5;
 pub const NO_NUMBER: usize = 4294967295;
 
 // What a word is, and where in it its value starts: 0 where the value is the next word, or there is none.
-#[derive(Drop)]
+#[derive(Clone, Copy)]
 pub struct Word {
     pub kind: usize,
     pub from: usize,

@@ -1,5 +1,7 @@
 // Flattens and classifies inputs of the printing program's form (document 01) and prints what comes of them: as that
 // program does, or the whole outcome.
+#![tactic(auto)]
+
 ghost use Rattle.std.specs.Prelude.{◌≤◌};
 
 use flattened::Flattened;
@@ -13,7 +15,7 @@ use settings::Settings;
 use text::part_of;
 
 // What flatten answered; or the input is not of the form.
-#[derive(Drop)]
+#[derive(Clone, Copy)]
 enum Handled {
     Flat(Flattened),
     Unformed,

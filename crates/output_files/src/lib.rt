@@ -1,5 +1,7 @@
 // The files that outputs go to. An output is written whole to a new file beside it, which takes its name once all outputs are
 // written; a device and what standard output and standard error stand for are written to as they are.
+#![tactic(auto)]
+
 mod opening;
 mod placing;
 mod targets;

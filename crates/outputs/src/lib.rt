@@ -1,5 +1,7 @@
 // What the technician's command writes to an open descriptor: the flat text with or without marks, its map, its words, macros as
 // definitions, a rule for make.
+#![tactic(auto)]
+
 mod gathering;
 mod listing;
 mod marks;

@@ -70,7 +70,7 @@ fn pour_between(fd: i32, out: &mut [u8], n: usize, k: usize) -> usize {
 }
 
 // Where the text of a stored form starts, and how much is gathered.
-#[derive(Drop)]
+#[derive(Clone, Copy)]
 struct Poured {
     at: usize,
     n: usize,

@@ -1,5 +1,7 @@
 // The operations for a program that keeps its macro records by value: the local array is lent to `lent` here, so that its
 // callers are free of slices of structs.
+#![tactic(auto)]
+
 ghost use Rattle.std.specs.Prelude.{replicate};
 ghost use Rattle.look_up.specs.Looking.{Shows};
 ghost use Rattle.pass.specs.Answer.{Passes};
@@ -11,7 +13,7 @@ use pass::Answer;
 use records::Record;
 
 // What flatten answered, and the macro records that it left.
-#[derive(Drop)]
+#[derive(Clone, Copy)]
 pub struct Own {
     pub records: [Record; 4096],
     pub answer: Flattened,

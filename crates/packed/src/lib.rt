@@ -1,11 +1,13 @@
 // Packed buffers: bytes and records that lie at the front of a lent buffer without gaps.
+#![tactic(auto)]
+
 ghost use Rattle.std.specs.Prelude.{◌≡◌, List, [], ◌∷◌, ◌++◌, ℕ, ◌+◌, ◌-◌, ◌≤◌, ◌<◌, length, take, drop, get_or, replicate, set};
 ghost use Rattle.std.proofs.Math.Seq.{paste};
 ghost use Rattle.packed.specs.Splicing.{live_after, spliced};
 ghost use Rattle.packed.specs.Records.{cut, numbers_of, blank_record, RecordIs, moved_by, moved_from};
 
 // A macro's record: where its stored form starts, its name's length, where its text starts, its text's length.
-#[derive(Drop)]
+#[derive(Clone, Copy)]
 pub struct Record {
     pub start: usize,
     pub name: usize,

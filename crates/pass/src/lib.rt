@@ -1,4 +1,6 @@
 // Pass (document 01; demand 3): whether every usage in the macros' texts is good and no macro reaches itself.
+#![tactic(auto)]
+
 ghost use Rattle.std.specs.Prelude.{◌≡◌, List, ℕ, ◌<◌, ◌≤◌, length};
 ghost use Rattle.definition.specs.Definitions.{Macro};
 ghost use Rattle.finding.specs.Buffers.{Holds};
@@ -15,7 +17,7 @@ use reach::close_rows;
 use uses::fill_rows;
 
 // Yes; or the first macro at fault, by its number, and its refusal; or a store that no definitions leave (1).
-#[derive(Drop)]
+#[derive(Clone, Copy)]
 pub enum Answer {
     Yes,
     Fault(usize, usize),

@@ -1,4 +1,6 @@
 // What classify passes over (document 01, "Reserved words"): a well-formed directive whole, of any other grave accent name the name.
+#![tactic(auto)]
+
 ghost use Rattle.std.specs.Prelude.{◌≡◌, ◌≤◌, length};
 ghost use Rattle.definition.specs.Definitions.{definition_at};
 ghost use Rattle.definition.specs.Answers.{judged_of};

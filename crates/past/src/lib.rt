@@ -1,4 +1,6 @@
 // How far classify passes over a directive (document 01, "Reserved words"), by its form or, of a conditional word, by its condition.
+#![tactic(auto)]
+
 ghost use Rattle.std.specs.Prelude.{◌≡◌, []};
 ghost use Rattle.conditions.specs.Grammar.{is_defined, condition_at};
 ghost use Rattle.past.specs.Forms.{by_form, by_condition, takes_condition};
@@ -10,7 +12,7 @@ use names::{ELSIF, IFDEF, IFNDEF};
 use settings::keywords_after;
 
 // Where to read on, and in which keyword set; or a refusal and its place.
-#[derive(Drop)]
+#[derive(Clone, Copy)]
 pub enum Past {
     On(usize, usize),
     Stop(usize, usize),

@@ -1,4 +1,6 @@
 // Pending tokens (document 01, "Replacing") as references into the file and the macro bytes, and where lists are sought.
+#![tactic(auto)]
+
 ghost use Rattle.std.specs.Prelude.{◌≡◌, true, false, List, [], ◌∷◌, eqb, ℕ, ◌<◌, ◌≤◌, length, get_or};
 ghost use Rattle.pending.specs.Pending.{is_spacing, is_comment, is_blank};
 ghost use Rattle.pending.specs.References.{part_in, raw_of, cleaned_ref, joined_source, numbers_of, pend_of, pending_by};
@@ -22,7 +24,7 @@ pub const JOINED_FILE: usize = 3;
 pub const JOINED_STORE: usize = 4;
 
 // A pending token: its kind, where its bytes and its name stand, its set of macros.
-#[derive(Drop)]
+#[derive(Clone, Copy)]
 pub struct Pend {
     pub kind: usize,
     pub source: usize,
@@ -33,7 +35,7 @@ pub struct Pend {
 }
 
 // A token where a list is sought, with its place in a file, what bars it, and where the next begins.
-#[derive(Drop)]
+#[derive(Clone, Copy)]
 pub struct Item {
     pub pend: Pend,
     pub at: usize,
@@ -41,14 +43,14 @@ pub struct Item {
     pub next: usize,
 }
 
-#[derive(Drop)]
+#[derive(Clone, Copy)]
 pub enum Seen {
     Token(Item),
     End,
 }
 
 // How far a list of references is filled, or that there are too many.
-#[derive(Drop)]
+#[derive(Clone, Copy)]
 pub enum Pushed {
     Upto(usize),
     Full,

@@ -1,4 +1,6 @@
 // What the command does with the files that it read. Each answer is a digit.
+#![tactic(auto)]
+
 use answers::{DONE, FAILED, Left, REFUSED, answer_macros, finish};
 use flattening::flatten_found;
 use messages::say_refusal;

@@ -1,4 +1,6 @@
 // What is stored of one token of a definition, read afresh as it is made.
+#![tactic(auto)]
+
 ghost use Rattle.std.specs.Prelude.{length};
 ghost use Rattle.storing.specs.Stored.{piece};
 ghost use Rattle.reader_state.specs.States.{reading};

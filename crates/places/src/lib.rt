@@ -1,4 +1,6 @@
 // Lines, places and what the two `__` words write (document 01, "Map" and "Directives").
+#![tactic(auto)]
+
 ghost use Rattle.std.specs.Prelude.{◌≡◌, ◌+◌, ◌<◌, ◌≤◌, length, take};
 ghost use Rattle.places.specs.Places.{newlines, line_at, place_of, quoted, decimal};
 

@@ -1,5 +1,7 @@
 // What the command line asks for, in lent tables: numbers by slot, and a row for each file, folder, macro and list in the
 // order given. A row has its kind and a range of the command's words; what else it has is said at its kind.
+#![tactic(auto)]
+
 ghost use Rattle.std.specs.Prelude.{◌<◌, ◌≤◌};
 
 use text::{part_of, peek};

@@ -1,4 +1,6 @@
 // Whether a plan can be carried out: what it asks for goes together, and no output is a file that is read.
+#![tactic(auto)]
+
 use identity::{Identity, of_descriptor, of_path};
 use libc::STDIN_FILENO;
 use messages::complain;

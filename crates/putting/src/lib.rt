@@ -1,4 +1,6 @@
 // What is written for a directive that is kept as state, for the two `__` words and for a usage.
+#![tactic(auto)]
+
 ghost use Rattle.std.specs.Prelude.{List, ℕ, ◌≤◌, length};
 ghost use Rattle.copying.specs.Copying.{Reads};
 ghost use Rattle.turns.specs.Acts.{spells, expands, keep_act};

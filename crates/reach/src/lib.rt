@@ -1,5 +1,7 @@
 // What macros reach (document 01, "reaches these and what they reach"): rows of bits, row i the macros that macro i uses,
 // become rows of what they reach.
+#![tactic(auto)]
+
 ghost use Rattle.std.specs.Prelude.{◌≡◌, ◌||◌, ℕ, ◌<◌, ◌≤◌, length};
 ghost use Rattle.sets.specs.Sets.{elem, members};
 ghost use Rattle.reach.specs.Reaching.{set_of, row_of, Fits, Joined, JoinedAll, Closed};

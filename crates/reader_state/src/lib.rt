@@ -1,4 +1,6 @@
 // The state of the reader of stored bytes, and what the first byte of a token or a byte of a name makes of it.
+#![tactic(auto)]
+
 ghost use Rattle.std.specs.Prelude.{◌≡◌, false, List, ℕ, ◌*◌, ◌≤◌, length};
 ghost use Rattle.reader_state.specs.States.{naming, longer, single, fresh, closed, in_word, spoilt};
 ghost use Rattle.reader_state.specs.States.{sign as sign_of};
@@ -47,7 +49,7 @@ pub const BAD: usize = 17;
 
 // A reading of a text, or else of a default: its state, whether it stands between quote marks, whether a name stands
 // behind a grave accent, how many bytes the name has so far, how many closing brackets are due.
-#[derive(Drop)]
+#[derive(Clone, Copy)]
 pub struct Reading {
     pub state: usize,
     pub text: bool,
@@ -58,7 +60,7 @@ pub struct Reading {
 }
 
 // A reading some bytes further on; or the brackets have no room.
-#[derive(Drop)]
+#[derive(Clone, Copy)]
 pub enum Fed {
     On(Reading),
     Short,

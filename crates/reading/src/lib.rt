@@ -1,4 +1,6 @@
 // A file read on (document 01, "Directives"): tokens copied or skipped and conditional words carried out, up to anything else.
+#![tactic(auto)]
+
 ghost use Rattle.std.specs.Prelude.{◌≡◌, true, false, List, ℕ, ◌≤◌};
 ghost use Rattle.definition.specs.Definitions.{Macro};
 ghost use Rattle.finding.specs.Buffers.{Holds};
@@ -23,7 +25,7 @@ use writing::Spot;
 
 // Where reading stands before a token that is neither copied nor skipped and no conditional word, with its directive; or
 // refused, with the place.
-#[derive(Drop)]
+#[derive(Clone, Copy)]
 pub enum Reached {
     Upto(Cursor, Spot, Blocks, Token, usize),
     Refused(Cursor, Spot, Blocks, usize, usize),

@@ -1,9 +1,11 @@
 // Macro records as structs (document 01): "start, name length, text start, text length", lent as a slice.
+#![tactic(auto)]
+
 ghost use Rattle.std.specs.Prelude.{◌≡◌, cond, ◌<◌, ◌≤◌, eqb, length, get_or};
 ghost use Rattle.records.specs.Records.{no_record, inserted, removed};
 
 // A macro record: where the stored form starts, the name's length, where the text starts, its length.
-#[derive(Drop)]
+#[derive(Clone, Copy)]
 pub struct Record {
     pub start: u32,
     pub name_length: u32,

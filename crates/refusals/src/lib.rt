@@ -1,4 +1,6 @@
 // What the command says of a flattening: its refusal with the source line, or a summary.
+#![tactic(auto)]
+
 use flattened::Flattened;
 use handover::is_sound;
 use messages::{complain, say, say_number, say_refusal, say_refused};

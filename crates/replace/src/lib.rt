@@ -1,4 +1,6 @@
 // One replacement (document 01, "Replacing"): a macro's text with the arguments in place, as references on the pending list.
+#![tactic(auto)]
+
 ghost use Rattle.std.specs.Prelude.{◌≡◌, List, ℕ, max, ◌+◌, ◌<◌, ◌≤◌, length, take};
 ghost use Rattle.definition.specs.Definitions.{Parameter};
 ghost use Rattle.packed.specs.Records.{Small};
@@ -42,7 +44,7 @@ pub fn is_enough(b: &[u8], at: usize, count: usize, given: usize) -> bool
 }
 
 // A formal by its number, and where its form starts.
-#[derive(Drop)]
+#[derive(Clone, Copy)]
 pub struct Which {
     pub number: usize,
     pub at: usize,

@@ -1,5 +1,7 @@
 // The definitions carried out once more along the map: macros redefined with another text, and `undef` of one that is not
 // defined.
+#![tactic(auto)]
+
 mod comparing;
 mod defined;
 pub mod saying;

@@ -1,4 +1,6 @@
 // The run over files (document 01, "Directives"), token by token to its end: text and map written, macros and directive state kept.
+#![tactic(auto)]
+
 ghost use Rattle.std.specs.Prelude.{◌≡◌, ◌≤◌};
 ghost use Rattle.entries.specs.Entries.{Stored};
 ghost use Rattle.places.specs.Places.{place_of};
@@ -14,7 +16,7 @@ use reading::{Reached, read_on};
 use stage::{Stage, Step, reached, refuse};
 
 // The last stage of a run, and the refusal, or 0, with file and byte.
-#[derive(Drop)]
+#[derive(Clone, Copy)]
 pub struct Last {
     pub stage: Stage,
     pub number: usize,

@@ -1,4 +1,6 @@
 // Files that are included but not given by name, sought in the current folder and in the folders of -I.
+#![tactic(auto)]
+
 use directive::{FileName, include_at};
 use handover::entry_of;
 use identity::{is_folder, of_path};
@@ -10,7 +12,7 @@ use sources::read_found;
 use text::{part_of, peek};
 
 // What came of a search: the file is added; there is none; or a message was written.
-#[derive(Drop)]
+#[derive(Clone, Copy)]
 pub enum Search {
     Added,
     Missing,
@@ -18,7 +20,7 @@ pub enum Search {
 }
 
 // An include's name: the form of its quotes, and its range in the byte store. The form is over 1 where there is none.
-#[derive(Drop)]
+#[derive(Clone, Copy)]
 pub struct Wanted {
     pub form: u32,
     pub at: usize,

@@ -1,4 +1,6 @@
 // The command from its arguments to its answer: help, or the plan checked and carried out.
+#![tactic(auto)]
+
 use answers::{DONE, FAILED};
 use command_line::read_words;
 use messages::{WRAPPER, complain};

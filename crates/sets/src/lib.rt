@@ -1,9 +1,11 @@
 // Sets of macros (document 01, "Macros"): a macro is its number in the store, below 256; a set is the bits of four words.
+#![tactic(auto)]
+
 ghost use Rattle.std.specs.Prelude.{◌≡◌, [], ◌<◌, ◌/◌, ◌%◌, ◌^◌, eqb, length};
 ghost use Rattle.sets.specs.Sets.{elem, insert_asc, members, put};
 
 // Number i is bit i % 64 of word i / 64.
-#[derive(Drop)]
+#[derive(Clone, Copy)]
 pub struct MacroSet {
     pub w0: u64,
     pub w1: u64,

@@ -1,11 +1,13 @@
 // The directive state (document 01, "Directives"): what the copied directives leave.
+#![tactic(auto)]
+
 ghost use Rattle.std.specs.Prelude.{◌≡◌};
 ghost use Rattle.settings.specs.Settings.{keywords_by, reset_to, set_by};
 
 use directive::Value;
 
 // A time scale, if there is one, as powers of ten; net type, cell, drive and keyword set by their numbers.
-#[derive(Drop)]
+#[derive(Clone, Copy)]
 pub struct Settings {
     pub scaled: bool,
     pub unit: usize,

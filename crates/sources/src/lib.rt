@@ -1,5 +1,7 @@
 // The files and start macros of the technician's command, read into the byte store, with their include table; and the root
 // entry that the command makes where it has several roots or macros with values.
+#![tactic(auto)]
+
 mod adding;
 mod making;
 

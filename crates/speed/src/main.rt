@@ -1,4 +1,6 @@
 // Flattens the files on standard input, in the printing program's form, and writes the flat text: for measuring.
+#![tactic(auto)]
+
 ghost use Rattle.std.specs.Prelude.{◌≤◌, length};
 
 use flatten::flatten;

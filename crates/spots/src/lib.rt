@@ -1,4 +1,6 @@
 // A place in a walk over the tokens of a file, and what every walk needs.
+#![tactic(auto)]
+
 ghost use Rattle.std.specs.Prelude.{◌<◌, length};
 
 use lex::{GRAVE, NEWLINE, Token, marks_after};
@@ -8,7 +10,7 @@ use text::part_of;
 
 // Where the walk stands: the file, the byte, its line, where that line starts, whether only white bytes stand before on it,
 // whether it is between quote marks, and the end of the last definition met, up to which directives are but text.
-#[derive(Drop)]
+#[derive(Clone, Copy)]
 pub struct Spot {
     pub file: usize,
     pub at: usize,

@@ -1,4 +1,6 @@
 // Where a run stands, and the small steps from one stage to the next.
+#![tactic(auto)]
+
 ghost use Rattle.std.specs.Prelude.{◌≡◌, ◌≤◌};
 ghost use Rattle.cursor.specs.Cursors.{cursor_behind};
 ghost use Rattle.copying.specs.Copying.{Reads};
@@ -14,7 +16,7 @@ use writing::Spot;
 
 // Where a run stands: the open files, the innermost with its cursor; the open conditionals; the macros; the directive state;
 // where writing stands; the replacements and the deepest set so far.
-#[derive(Drop)]
+#[derive(Clone, Copy)]
 pub struct Stage {
     pub depth: usize,
     pub file: usize,
@@ -28,7 +30,7 @@ pub struct Stage {
 }
 
 // The next stage, or the end: refused, or 0, with file and byte.
-#[derive(Drop)]
+#[derive(Clone, Copy)]
 pub enum Step {
     On(Stage),
     Ended(Stage, usize, usize, usize),

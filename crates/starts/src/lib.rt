@@ -1,4 +1,6 @@
 // Start macros (document 01): whether ranges of the byte store name some that fit, and these defined empty.
+#![tactic(auto)]
+
 ghost use Rattle.std.specs.Prelude.{◌≡◌, List, [], ◌+◌, ◌≤◌, ◌<◌, length, get_or, drop};
 ghost use Rattle.definition.specs.Definitions.{Macro, macro};
 ghost use Rattle.store.specs.Stores.{define as defineMacro};

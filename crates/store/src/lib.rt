@@ -1,4 +1,6 @@
 // The macro store (document 01, "Macros") in lent buffers: define, undefine, all out, zero.
+#![tactic(auto)]
+
 ghost use Rattle.std.specs.Prelude.{List, [], ◌≤◌, ◌<◌, length};
 ghost use Rattle.definition.specs.Definitions.{Macro};
 ghost use Rattle.finding.specs.Buffers.{Holds};
@@ -12,7 +14,7 @@ use packed::{clear, clear_records, read};
 use text::part_of;
 
 // What a definition answers: the number of macros then, or that there is no room (12).
-#[derive(Drop)]
+#[derive(Clone, Copy)]
 pub enum Defined {
     Done(usize),
     NoRoom,

@@ -10,6 +10,8 @@
 //   P                      prints the records and bytes
 //   F name bytes k records looks a macro up in these bytes and k records
 //   G bytes k records      passes these bytes and k records
+#![tactic(auto)]
+
 ghost use Rattle.std.specs.Prelude.{◌≡◌, ◌<◌, ◌≤◌, length};
 ghost use Rattle.store_cases.specs.Kept.{Kept, counted};
 

@@ -1,4 +1,6 @@
 // What is stored of a macro's text or of a default, written into lent bytes (document 01, "Macros").
+#![tactic(auto)]
+
 ghost use Rattle.std.specs.Prelude.{◌≡◌, ◌≤◌, length, false, [], ◌∷◌};
 ghost use Rattle.text.specs.Bytes.{part};
 ghost use Rattle.storing.specs.Stored.{joined_from, escape_of, given, piece};
@@ -12,7 +14,7 @@ use lex::{
 use text::holds_in;
 
 // How far a buffer is filled now, or that it has no room.
-#[derive(Drop)]
+#[derive(Clone, Copy)]
 pub enum Stored {
     Upto(usize),
     Short,

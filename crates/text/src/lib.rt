@@ -1,11 +1,13 @@
 // Byte strings: reading one byte, comparing words, byte order.
+#![tactic(auto)]
+
 ghost use Rattle.std.specs.Prelude.{◌≡◌, ◌≤◌, get_or, drop};
 ghost use Rattle.text.specs.Bytes.{begins, holds, part, two_at};
 ghost use Rattle.text.specs.Bytes.{same as sameBytes};
 ghost use Rattle.text.specs.Order.{order_of};
 
 // How two byte strings stand in byte order.
-#[derive(Drop)]
+#[derive(Clone, Copy)]
 pub enum Order {
     Less,
     Equal,

@@ -1,5 +1,7 @@
 // An argument as it is put in place (document 01, "Replacing"): its tokens cleaned, without the spacing at both ends, as
 // references.
+#![tactic(auto)]
+
 ghost use Rattle.std.specs.Prelude.{◌≡◌, ◌&&◌, List, ◌<◌, ◌≤◌, length};
 ghost use Rattle.pending.specs.Pending.{Pending};
 ghost use Rattle.pending.specs.Sources.{items_from, last_of, item_of, Spans};

@@ -1,4 +1,6 @@
 // The form of a `timescale`: a time unit and a precision (document 01, "Directives").
+#![tactic(auto)]
+
 ghost use Rattle.std.specs.Prelude.{◌≡◌, ◌<◌, length};
 ghost use Rattle.timescale.specs.Times.{unit_after, magnitude, time_at, precision_form, slash_form, timescale_form};
 ghost use Rattle.timescale.specs.Times.{power as powerOf};
@@ -10,7 +12,7 @@ use text::{begins_at, part_of};
 
 // A directive of its form, as read: two numbers that it says, 0 where it says none, and its end; an ill_formed one; or a token
 // of it that 2 to 6 bar, with its place.
-#[derive(Drop)]
+#[derive(Clone, Copy)]
 pub enum Read {
     Said(usize, usize, usize),
     Unformed,
@@ -18,7 +20,7 @@ pub enum Read {
 }
 
 // A time as a power of ten of 1 fs, and its end.
-#[derive(Drop)]
+#[derive(Clone, Copy)]
 pub enum Time {
     Power(usize, usize),
     Unformed,

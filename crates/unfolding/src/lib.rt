@@ -1,4 +1,6 @@
 // The tokens of a macro's text as references in a lent list, the first one last.
+#![tactic(auto)]
+
 ghost use Rattle.std.specs.Prelude.{◌≤◌, length};
 ghost use Rattle.packed.specs.Records.{Small};
 ghost use Rattle.unfolding.specs.Unfolding.{Unfolds};

@@ -1,5 +1,7 @@
 // One usage replaced (document 01, "Replacing"): the macro that it names, its list, and the text that takes their place in the
 // pending list.
+#![tactic(auto)]
+
 ghost use Rattle.std.specs.Prelude.{◌≡◌, true, List, [], ℕ, ◌<◌, ◌≤◌, length};
 ghost use Rattle.definition.specs.Definitions.{Parameter, Macro};
 ghost use Rattle.packed.specs.Records.{Small};
@@ -23,7 +25,7 @@ use sets::MacroSet;
 use text::peek;
 
 // The next stand, or the end: refused, or 0, with the place of 2 to 6.
-#[derive(Drop)]
+#[derive(Clone, Copy)]
 pub enum Turn {
     On(Stand),
     Ended(usize, usize),

@@ -1,4 +1,6 @@
 // Which macros the text of each macro uses (document 01; demand 3), as rows of bits.
+#![tactic(auto)]
+
 ghost use Rattle.std.specs.Prelude.{◌≡◌, List, ℕ, ◌<◌, ◌≤◌, length};
 ghost use Rattle.definition.specs.Definitions.{Macro};
 ghost use Rattle.sets.specs.Sets.{elem, members};

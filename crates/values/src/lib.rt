@@ -1,5 +1,7 @@
 // What takes the place of a formal (document 01, "Replacing"): its argument, read once and copied at each later use, or its
 // default.
+#![tactic(auto)]
+
 ghost use Rattle.std.specs.Prelude.{◌≡◌, List, [], ◌∷◌, ℕ, ◌+◌, ◌-◌, ◌<◌, ◌≤◌, length, take, drop, get_or};
 ghost use Rattle.std.proofs.Math.Option.{Option};
 ghost use Rattle.text.specs.Bytes.{part};

@@ -1,4 +1,6 @@
 // Warnings after a flattening: what was given or written and then dropped out in silence.
+#![tactic(auto)]
+
 mod files;
 mod saying;
 mod uses;

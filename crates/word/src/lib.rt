@@ -1,4 +1,6 @@
 // A name as a word (document 01, "Reserved words"): its place, its length and whether it is reserved.
+#![tactic(auto)]
+
 ghost use Rattle.std.specs.Prelude.{◌≡◌, ◌≤◌};
 ghost use Rattle.keywords.specs.Tables.{Tables};
 ghost use Rattle.word.specs.Word.{word_of, bit};

@@ -1,5 +1,7 @@
 // The reserved words of the text on standard input. Arguments: the words lent, up to 65,536, and the keyword set at the
 // start, 0 to 3.
+#![tactic(auto)]
+
 use formats::{least, say_classified};
 use libc::{STDERR_FILENO, STDIN_FILENO};
 use options::{NO_NUMBER, number_of};

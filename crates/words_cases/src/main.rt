@@ -1,5 +1,7 @@
 // Runs the framed classify cases on standard input and prints each classification. A frame: words lent, keyword set at
 // the start, and length of the text, four bytes each, low first; then the text.
+#![tactic(auto)]
+
 use formats::{field_at, field_end, least, number_at, say_classified};
 use libc::STDIN_FILENO;
 use text::part_of;

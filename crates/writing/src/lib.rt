@@ -1,10 +1,12 @@
 // Writing (document 01, "Map"): the bytes of a token and its map entries, whole, or refusal 19 or 20 and nothing.
+#![tactic(auto)]
+
 ghost use Rattle.std.specs.Prelude.{◌≡◌, [], ◌∷◌, cond, eqb, ◌+◌, ◌*◌, ◌<◌, ◌≤◌, length};
 ghost use Rattle.writing.specs.Written.{put, placed};
 ghost use Rattle.writing.specs.Buffers.{line_count, Writable, Puts, WroteBy};
 
 // Where writing stands: the bytes and the map entries written, and whether the next byte begins a line.
-#[derive(Drop)]
+#[derive(Clone, Copy)]
 pub struct Spot {
     pub written: usize,
     pub lines: usize,
@@ -12,7 +14,7 @@ pub struct Spot {
 }
 
 // What was written, or the refusal: 19 or 20.
-#[derive(Drop)]
+#[derive(Clone, Copy)]
 pub enum Wrote {
     Upto(Spot),
     Full(usize),

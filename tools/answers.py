@@ -61,6 +61,8 @@ def convert(crate,folder,path):
         segs=[segs[0]]+[x for x in segs[1:] if x!='before']
         if len(segs)>1 and segs[1].replace('_','-') in steps:
             segs[1]=steps[segs[1].replace('_','-')]
+        if len(segs)==3 and '-not-' in segs[1] and segs[2] in ('true','false'):
+            return f"({'not_from_false' if segs[2]=='true' else 'not_from_true'} _ {'.'.join(segs)})"
         return '.'.join(segs)
     def body(lines,sub=None):
         t='\n'.join(lines)
@@ -160,6 +162,8 @@ def convert(crate,folder,path):
                     if ok: keep.append(it)
                 if keep: out.append(f'use {m.group(1)}.{{{", ".join(keep)}}}')
             else: out.append(u)
+        nots=[x for x in ('not_from_true','not_from_false') if x in words]
+        if nots: out.append(f'use Rattle.std.proofs.lemmas.Bool.{{{", ".join(nots)}}}')
         out.append(f'use Rattle.{crate}.proofs.{fn}.{what} as goal')
         return out
     d=os.path.dirname(path)

@@ -18,12 +18,12 @@ use Rattle.writing.specs.Buffers.{line_count, spot_after, Puts}
 pub text_placed : (step p : ℕ) (w : List ℕ) → text_of (placed step p w) ≡ w
 unfolding placed text_of
 text_placed step p [] = refl
-text_placed step p (b ∷ bs) = ap (λ (l : List ℕ). b ∷ l) (text_placed step _ bs)
+text_placed step p (b ∷ bs) = ap (λ (l : List ℕ). b ∷ l) (text_placed step (p + step) bs)
 
 pub length_placed : (step p : ℕ) (w : List ℕ) → length (placed step p w) ≡ length w
 unfolding placed
 length_placed step p [] = refl
-length_placed step p (b ∷ bs) = ap suc (length_placed step _ bs)
+length_placed step p (b ∷ bs) = ap suc (length_placed step (p + step) bs)
 
 -- a map has an entry for each line
 pub map_length : (fresh : Bool) (ws : List Written) → length (map_of fresh ws) ≡ line_count fresh (text_of ws)

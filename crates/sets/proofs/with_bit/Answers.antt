@@ -11,16 +11,16 @@ use Rattle.sets.proofs.Bits.{odd_or_even, bit_fits}
 use Rattle.sets.proofs.with_bit.Goals as goal
 
 -- the bit that the test found unset
-unset : (c : tie.Else1) → c.before.before.args.w / 2 ^ c.before.before.args.k % 2 ≡ 0
-unset c = let a = c.before.before.args in
-    ⊎_elim (λ z. z) (λ z. absurd (eqb-false (a.w / 2 ^ a.k % 2) 1 (sym c.before.bit.ensures ∙ c.if1.false) z)) (odd_or_even (a.w / 2 ^ a.k))
+unset : (c : goal.Else-bit) → c.args.w / 2 ^ c.args.k % 2 ≡ 0
+unset c = let a = c.args in
+    ⊎_elim (λ z. z) (λ z. absurd (eqb-false (a.w / 2 ^ a.k % 2) 1 (sym c.bit.ensures ∙ c.if-bit.false) z)) (odd_or_even (a.w / 2 ^ a.k))
 
 pub returns-then-bit : goal.returns-then-bit
 unfolding put
 returns-then-bit c = rw (sym c.bit.ensures ∙ c.if-bit.true)
 
-pub LOST-overflow-add-result : goal.LOST-overflow-add-result
-LOST-overflow-add-result c = let a = c.args in
+pub overflow_add-result : goal.overflow_add-result
+overflow_add-result c = let a = c.args in
     let z : a.w / 2 ^ a.k % 2 ≡ 0 = unset c in
     let p : 2 ^ a.k < 2 ^ 64 = pow-lt {j = 64} (omega arith) in
     omega (arith, bit_fits 64 a.w a.k (omega arith) (omega arith) z)

@@ -11,13 +11,13 @@ pub bounds-w-i : goal.bounds-w-i
 bounds-w-i c = c.loop-i-test.true
 
 pub write_byte-y-requires : goal.write_byte-y-requires
-write_byte-y-requires c κs = going_room c.loop-i.invariant c.loop-i-test.true
+write_byte-y-requires c = going_room c.loop-i.invariant c.loop-i-test.true
 
 pub place_after-p-requires : goal.place_after-p-requires
-place_after-p-requires c κs = going_place c.loop-i.invariant c.loop-i-test.true
+place_after-p-requires c = going_place c.loop-i.invariant c.loop-i-test.true
 
-pub LOST-overflow-add-i : goal.LOST-overflow-add-i
-LOST-overflow-add-i c = omega (arith, c.loop-i-test.true, c.well-formed)
+pub overflow_add-i : goal.overflow_add-i
+overflow_add-i c = omega (arith, c.loop-i-test.true, c.well-formed)
 
 pub loop-i-smaller : goal.loop-i-smaller
 loop-i-smaller c = omega (arith, c.loop-i-test.true)

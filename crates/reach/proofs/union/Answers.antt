@@ -2,15 +2,10 @@
 -- Assumes nothing.
 use native.Mathlib.Omega.{arith}
 use Rattle.reach.proofs.Either.{in_either}
-use Rattle.reach.proofs.union.Statement.{statement}
-use Rattle.reach.proofs.union.Tie as tie
+use Rattle.reach.proofs.union.Goals as goal
 
-returns : tie.Need-returns
-returns c i = let s = c.before.before.before.before.before.before.before.before.args in
+pub returns : goal.returns
+returns c i = let s = c.args in
     in_either s.a s.b
     (record { fits0 = omega arith; fits1 = omega arith; fits2 = omega arith })
     (record { fits0 = omega arith; fits1 = omega arith; fits2 = omega arith }) i
-
-pub union-spec : {M : Type 1} → statement M
-union-spec = tie.close (tie.spec
-    returns)

@@ -11,7 +11,7 @@ pub overflow_add-n : goal.overflow_add-n
 overflow_add-n c = omega (arith, c.loop-i.invariant.few)
 
 pub shape_of-stack-then-f : goal.shape_of-stack-then-f
-shape_of-stack-then-f c = c.formal_at-r.auto.1.1.0 ∙ c.loop-i.invariant.same
+shape_of-stack-then-f c = c.formal_at-r.auto.stack ∙ c.loop-i.invariant.same
 
 pub returns-then-f : goal.returns-then-f
 returns-then-f c = counted_last c.loop-i.invariant c.formal_at-r.ensures _ c.in-Whole.is c.if-f.true
@@ -20,16 +20,16 @@ pub loop-i-smaller : goal.loop-i-smaller
 loop-i-smaller c = let h = counted_goes c.loop-i.invariant c.formal_at-r.ensures _ c.in-Whole.is in omega arith
 
 pub loop-i-preserved : goal.loop-i-preserved
-loop-i-preserved c = counted_next c.loop-i.invariant c.formal_at-r.ensures _ c.in-Whole.is c.if-f.false c.formal_at-r.auto.1.1.0
+loop-i-preserved c = counted_next c.loop-i.invariant c.formal_at-r.ensures _ c.in-Whole.is c.if-f.false c.formal_at-r.auto.stack
 
 pub shape_of-stack-in-IllFormed : goal.shape_of-stack-in-IllFormed
-shape_of-stack-in-IllFormed c = c.formal_at-r.auto.1.1.0 ∙ c.loop-i.invariant.same
+shape_of-stack-in-IllFormed c = c.formal_at-r.auto.stack ∙ c.loop-i.invariant.same
 
 pub returns-in-IllFormed : goal.returns-in-IllFormed
 returns-in-IllFormed c = counted_ill c.loop-i.invariant c.formal_at-r.ensures c.in-IllFormed.is
 
 pub shape_of-stack-in-Short : goal.shape_of-stack-in-Short
-shape_of-stack-in-Short c = c.formal_at-r.auto.1.1.0 ∙ c.loop-i.invariant.same
+shape_of-stack-in-Short c = c.formal_at-r.auto.stack ∙ c.loop-i.invariant.same
 
 pub returns-in-Short : goal.returns-in-Short
 returns-in-Short c = counted_short c.loop-i.invariant c.formal_at-r.ensures c.in-Short.is

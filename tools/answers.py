@@ -45,7 +45,7 @@ def convert(crate,folder,path):
     if e is None: return f'no names for {key}'
     text=open(path).read()
     if ' Tie as tie' not in text.replace('.Tie as tie',' Tie as tie'): return f'{key}: no Tie (by hand)'
-    def norm(x): return re.sub(r'is-is([a-z])',r'is-\1',x.replace('_','-').lower())
+    def norm(x): return re.sub(r'-lem(?=$|\d)','',re.sub(r'is-is([a-z])',r'is-\1',x.replace('_','-').lower()))
     needs={norm(o):n for o,n in e['needs']}
     byname={}
     for o,n in e['needs']: byname.setdefault(norm(n),n)
@@ -57,6 +57,7 @@ def convert(crate,folder,path):
         if o: steps[norm(o)]=n
     calls={}
     armed={}
+    called={x[3].split('::')[-1] for x in e['places'] if x[3]}
     placed={}
     for (name,parent,step,fun,_),arm,nn in zip(e['places'],e['arms'],e['places_by_name']):
         placed[norm(name)]=nn
@@ -65,8 +66,8 @@ def convert(crate,folder,path):
             an,k,items=arm
             for it in items:
                 if len(it)==3:
-                    new,old,path=it
-                    armed.setdefault(norm(old),[]).append((path,an,new))
+                    new,old,pth=it
+                    armed.setdefault(norm(old),[]).append((pth,an,new))
     notes=[]
     def turn_chain(m):
         s=m.group(0)
@@ -77,21 +78,22 @@ def convert(crate,folder,path):
         segs=[segs[0]]+[x for x in segs[1:] if x!='before']
         if len(segs)>1:
             s1=norm(segs[1])
+            if s1 in('well-formed','type-inv'): segs[1]=s1.replace('-','_')
             best=None
-            for path,an,new in armed.get(s1,[]):
-                if path and segs[2:2+len(path)]==path and (best is None or len(path)>len(best[0])): best=(path,an,new)
+            for pth,an,new in armed.get(s1,[]):
+                if pth and segs[2:2+len(pth)]==pth and (best is None or len(pth)>len(best[0])): best=(pth,an,new)
             if best:
                 segs=[segs[0],best[1],best[2]]+segs[2+len(best[0]):]
             elif s1 in steps:
                 ps=calls.get(s1)
-                if ps and len(segs)>3 and segs[2]=='new' and segs[3] in '01':
+                if ps and len(segs)>3 and segs[2] in ('new','auto') and segs[3] in '01':
                     k=3
                     while k<len(segs) and segs[k]=='1': k+=1
                     if k<len(segs) and segs[k]=='0' and k-3<len(ps):
                         segs[3:k+1]=[ps[k-3]]
                     elif k==len(segs) and k-3<len(ps): segs[3:k]=[ps[k-3]]
                 segs[1]=steps[s1]
-        if len(segs)==3 and '-not-' in segs[1] and segs[2] in ('true','false'):
+        if len(segs)==3 and '-not-' in segs[1] and segs[2] in ('true','false') and re.sub(r'-.*','',segs[1].split('-not-')[1]) in called:
             return f"({'not_from_false' if segs[2]=='true' else 'not_from_true'} _ {'.'.join(segs)})"
         return '.'.join(segs)
     def body(lines,sub=None):

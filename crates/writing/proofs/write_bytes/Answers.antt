@@ -17,7 +17,7 @@ pub place_after-p-requires : goal.place_after-p-requires
 place_after-p-requires c = going_place c.loop-i.invariant c.loop-i-test.true
 
 pub overflow_add-i : goal.overflow_add-i
-overflow_add-i c = omega (arith, c.loop-i-test.true, c.well-formed)
+overflow_add-i c = omega (arith, c.loop-i-test.true, c.well_formed)
 
 pub loop-i-smaller : goal.loop-i-smaller
 loop-i-smaller c = omega (arith, c.loop-i-test.true)

@@ -1,4 +1,3 @@
-use Prim.Native.Nat.{◌-◌}
 use Rattle.places.proofs.Filling.{counted_none, counted_newline, counted_other, counted_all}
 use Rattle.places.proofs.newlines_in.Goals as goal
 

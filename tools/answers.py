@@ -76,7 +76,7 @@ def convert(crate,folder,path):
         segs=s.split('.')
         if segs[0] in ('tie','goal') or not segs[0] or segs[0][0].isupper(): return s
         segs=[segs[0]]+[x for x in segs[1:] if x!='before']
-        if len(segs)>1:
+        if len(segs)>1 and segs[0] in roots:
             s1=norm(segs[1])
             if s1 in('well-formed','type-inv'): segs[1]=s1.replace('-','_')
             best=None
@@ -100,6 +100,7 @@ def convert(crate,folder,path):
         t='\n'.join(lines)
         t=CHAIN.sub(turn_chain,t)
         return t
+    roots={'c'}|{m.group(1) for m in re.finditer(r'let (\S+) = c(?:\.before)* in',text)}|{m.group(1) for m in re.finditer(r'\((\S+) : tie\.[A-Z]',text)}
     uses=[];inv=[];ans=[];helpers=[];head=[]
     for b in blocks_of(text):
         src='\n'.join(b)
@@ -193,6 +194,7 @@ def convert(crate,folder,path):
                             ans.append('\n'.join([f'pub {g} : goal.{g}']+unf+[f'{g} {mm.group(1)} = '+CHAIN.sub(turn_chain,mm.group(2))]))
             continue
         ht=body(core)
+        ht=re.sub(r'(tie\.[A-Z][\w-]*)((?: (?:invariant|decreases)-[\w-]+)+)',r'\1',ht)
         ht=re.sub(r'tie\.([A-Z][\w-]*)',lambda mm: 'goal.'+placed.get(norm(mm.group(1)),mm.group(1)),ht)
         helpers.append('\n'.join(lead+ht.split('\n')))
     def select(uselines,bodytext,what):

@@ -9,8 +9,9 @@ loop-i-init c = counted_none _ _
 
 pub loop-i-preserved : goal.loop-i-preserved
 loop-i-preserved c = elim c.if-f.branch [
-    then-f w ↦ counted_line c.loop-i.invariant c.loop-i-test.true w.if-f.true w.n-is
-    | else-f w ↦ counted_other c.loop-i.invariant c.loop-i-test.true w.if-f.false w.n-is ]
+  | then-f w ↦ counted_line c.loop-i.invariant c.loop-i-test.true w.if-f.true w.n-is
+  | else-f w ↦ counted_other c.loop-i.invariant c.loop-i-test.true w.if-f.false w.n-is
+]
 
 pub returns : goal.returns
 returns c = counted_all c.loop-i.invariant c.loop-i-test.false

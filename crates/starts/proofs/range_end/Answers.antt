@@ -9,6 +9,6 @@ use Rattle.starts.proofs.range_end.Goals as goal
 
 pub overflow_add-result : goal.overflow_add-result
 overflow_add-result c =
-    let a : Fits w32 (get_or c.args.t1 0 0) = search rules in
-    let b : Fits w32 (get_or c.args.t1 1 0) = search rules in
+    let a : Fits w32 (get_or c.args.v 0 0) = search rules in
+    let b : Fits w32 (get_or c.args.v 1 0) = search rules in
     omega arith

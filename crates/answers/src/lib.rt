@@ -3,7 +3,7 @@
 
 use classify::Classified;
 use delivery::deliver;
-use flattened::Flattened;
+use flatten::Flattened;
 use messages::{complain, say, say_refusal, say_refused};
 use options::PASS;
 use own::Own;
@@ -63,7 +63,7 @@ fn answer_lookup(name: &[u8], bytes: &[u8], records: [Record; 4096]) -> u8 {
         complain(name, b"this macro is not defined");
         return REFUSED;
     }
-    if outputs::show_macro(libc::STDOUT_FILENO, form, look_up::plain_name(name).len()) {
+    if outputs::show_macro(libc::STDOUT_FILENO, form, macros::plain_name(name).len()) {
         return DONE;
     }
     inputs::fail_at(b"standard output");

@@ -4,7 +4,7 @@
 
 ghost use Rattle.std.specs.Prelude.{◌≤◌};
 
-use flattened::Flattened;
+use flatten::Flattened;
 use formats::{
     least, say, say_bytes, say_classified, say_count, say_number, say_pass, say_records,
     say_refusal, say_words,

@@ -5,7 +5,7 @@ use crate::gathering::{flush, pour};
 use genuine::{formal_end, formal_name, mark_at};
 use plan::wide;
 use records::Record;
-use starts::is_start_name;
+use macros::is_start_name;
 use text::{holds_in, part_of, peek, two_at};
 
 // A text with `\` before each newline, as a definition has it.

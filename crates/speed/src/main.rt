@@ -4,7 +4,7 @@
 ghost use Rattle.std.specs.Prelude.{◌≤◌, length};
 
 use flatten::flatten;
-use flattened::Flattened;
+use flatten::Flattened;
 use input::Parsed;
 use libc::{STDERR_FILENO, STDIN_FILENO, STDOUT_FILENO};
 use text::part_of;

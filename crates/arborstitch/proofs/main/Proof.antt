@@ -1,7 +1,7 @@
 -- `arborstitch::main` is safe: the buffers are as long as they say.
 -- Assumes nothing.
 use borrow.Author.Rules.{rules}
-use Rattle.passed_over.proofs.Filled.{filled}
+use Rattle.classify.proofs.Filled.{filled}
 use Rattle.arborstitch.proofs.main.Statement.{statement}
 use Rattle.arborstitch.proofs.main.Tie as tie
 

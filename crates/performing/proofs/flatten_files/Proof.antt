@@ -4,7 +4,7 @@ use mathlib.Core.Path.{◌≡◌, sym, ◌∙◌}
 use mathlib.Core.List.{List}
 use Prim.Native.Nat.{ℕ}
 use lib.ListN.{length, replicate, length-replicate}
-use Rattle.passed_over.proofs.Filled.{filled}
+use Rattle.classify.proofs.Filled.{filled}
 use Rattle.performing.proofs.flatten_files.Statement.{statement}
 use Rattle.performing.proofs.flatten_files.Tie as tie
 

@@ -1,6 +1,6 @@
 -- `words::main` meets its contract.
 -- Assumes nothing.
-use Rattle.passed_over.proofs.Filled.{filled}
+use Rattle.classify.proofs.Filled.{filled}
 use Rattle.words.proofs.main.Statement.{statement}
 use Rattle.words.proofs.main.Tie as tie
 

@@ -1,0 +1,18 @@
+-- `brackets::bracket_of` meets its contract. It branches as its definition does.
+-- Assumes nothing.
+use borrow.Author.Tests.{eq-eqb, ne_eqb}
+use Rattle.brackets.proofs.bracket_of.Statement.{statement}
+use Rattle.brackets.proofs.bracket_of.Tie as tie
+
+returns : tie.Need-returns
+returns c = simp (eq-eqb _ _ c.if1.true)
+
+returns-2 : tie.Need-returns-2
+returns-2 c = simp (ne_eqb _ _ c.before.if1.false, eq-eqb _ _ c.if2.true)
+
+returns-3 : tie.Need-returns-3
+returns-3 c = simp (ne_eqb _ _ c.before.if1.false, ne_eqb _ _ c.if2.false)
+
+pub bracket-of-spec : {M : Type 1} → statement M
+bracket-of-spec = tie.close (tie.spec
+    returns returns-2 returns-3)

@@ -1,6 +1,0 @@
--- `cursor::past_lines` meets its contract.
--- Assumes nothing.
-use Rattle.cursor.proofs.past_lines.Goals as goal
-
-pub returns : goal.returns
-returns c = rw c.newlines_in-n.ensures.0

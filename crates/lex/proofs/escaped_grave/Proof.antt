@@ -1,0 +1,26 @@
+-- `lex::escaped_grave` meets its contract. The definition branches as the code does.
+-- Assumes nothing.
+use borrow.Author.Rules.{rules}
+use Rattle.lex.specs.Tokens.{escaped_grave}
+use Rattle.lex.proofs.escaped_grave.Statement.{statement}
+use Rattle.lex.proofs.escaped_grave.Tie as tie
+
+returns : tie.Need-returns
+unfolding escaped_grave
+returns c = simp (← c.before.before.before.before.peek.ensures, ← c.before.before.before.peek2.ensures, c.before.before.if1.true, ← c.before.mark-bar.ensures) c.plain.ensures
+
+returns-2 : tie.Need-returns-2
+unfolding escaped_grave
+returns-2 c = simp (← c.before.before.before.before.peek.ensures, ← c.before.before.before.peek2.ensures, c.before.before.if1.false, c.before.if2.true) c.plain2.ensures
+
+returns-3 : tie.Need-returns-3
+unfolding escaped_grave
+returns-3 c = simp (← c.before.before.before.before.before.peek.ensures, ← c.before.before.before.before.peek2.ensures, c.before.before.before.if1.false, c.before.before.if2.false, ← c.before.scan-span.ensures) c.escaped-or.ensures
+
+pub escaped-grave-spec : {M : Type 1} → statement M
+escaped-grave-spec =
+    tie.close
+    (tie.spec
+    (λ c. search rules) (λ c κs. search rules) (λ c. search rules) (λ c κs. search rules) (λ c. search rules)
+    (λ c κs. search rules) (λ c κs. search rules) returns (λ c. search rules) (λ c κs. search rules) returns-2
+    (λ c. search rules) (λ c. search rules) (λ c κs. search rules) (λ c κs. search rules) returns-3)

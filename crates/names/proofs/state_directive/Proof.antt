@@ -1,0 +1,21 @@
+-- `names::state_directive` meets its contract. The tests on the way to each return are found by search.
+-- Assumes nothing.
+use mathlib.Core.Path.{refl}
+use Rattle.text.specs.Bytes.{bytes}
+use Rattle.names.specs.Names.{state_of, state_directives}
+use Rattle.names.proofs.Chains.{chain, number, past}
+use Rattle.names.proofs.state_directive.Statement.{statement}
+use Rattle.names.proofs.state_directive.Tie as tie
+
+pub state-directive-spec : {M : Type 1} → statement M
+unfolding bytes state_of state_directives
+state-directive-spec =
+    tie.close
+    (tie.spec
+    (λ c. refl) (λ c κs. tt) (λ c. number (search chain)) (λ c. refl) (λ c κs. tt) (λ c. number (search chain))
+    (λ c. refl) (λ c κs. tt) (λ c. number (search chain)) (λ c. refl) (λ c κs. tt) (λ c. number (search chain))
+    (λ c. refl) (λ c κs. tt) (λ c. number (search chain)) (λ c. refl) (λ c κs. tt)
+    (λ c. number (past 4 (search chain) (search chain))) (λ c. refl) (λ c κs. tt)
+    (λ c. number (past 4 (search chain) (search chain))) (λ c. refl) (λ c κs. tt)
+    (λ c. number (past 4 (search chain) (search chain))) (λ c κs. tt)
+    (λ c. number (past 4 (search chain) (search chain))))

@@ -78,6 +78,7 @@ module _ (ms : List Macro) where
         rest = r;
         taken = ap (accepted (f ∷ fs)) q ∙ ap (λ (b : Bool). cond b (listed (a ∷ xs) r) (barred 15 0)) (subst (λ (n : ℕ). enough (f ∷ fs) n ≡ true) (sym e) k);
       }
+  taken_sized f fs ps (bad _ _) q h k = elim h [ ]
 
   taken_needs : (fs : List Parameter) (ps : List Pending) → Needs fs (views ps) → Taken fs ps
   taken_needs [] ps needs_none = record { arguments = []; rest = ps; taken = refl }

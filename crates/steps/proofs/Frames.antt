@@ -64,7 +64,8 @@ unfolding outer_frames
 outer_put w zero v h l = absurd (omega arith)
 outer_put w (suc n) v h l =
     let e : suc n - 1 ≡ n = omega arith in
-    rw (e, get_or-set_same w n v blank_frame (omega arith), outer_set w n n v (omega arith))
+    subst (λ (m : ℕ). outer_frames (set w m v) (suc n) ≡ frame_in v ∷ outer_frames w m) (sym e)
+    (rw (get_or-set_same w n v blank_frame (omega arith), outer_set w n n v (omega arith)))
 
 outer_none : (w : List (List ℕ)) (n file : ℕ) (c : Cursor) → n ≡ 0 → open_frames w n file c ≡ outer_frames w n
 unfolding outer_frames

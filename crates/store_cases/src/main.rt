@@ -17,10 +17,9 @@ ghost use Rattle.store_cases.specs.Kept.{Kept, counted};
 
 use macros::ReadIn;
 use formats::{
-    field_at, field_end, least, number_at, say, say_count, say_hex, say_number, say_pass,
-    say_records,
+    STDIN_FILENO, field_at, field_end, least, number_at, say, say_count, say_hex, say_number,
+    say_pass, say_records,
 };
-use libc::STDIN_FILENO;
 use text::part_of;
 
 fn wide(b: u8) -> usize

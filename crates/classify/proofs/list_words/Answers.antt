@@ -59,17 +59,11 @@ loop-i-preserved-then-t-ne-GRAVE c = (written_other _ _ _ _ _ _ _ c.loop-i.invar
 pub past_grave-p-requires : goal.past_grave-p-requires
 past_grave-p-requires c = (c.requires.0, omega (arith, c.requires.1, c.loop-i.invariant.1))
 
-pub enum_known-p : goal.enum_known-p
-enum_known-p c = c.in-Stop.keys1
-
 pub loop-i-smaller : goal.loop-i-smaller
 loop-i-smaller c = omega (arith, token_goes _ _ _ _ c.loop-i-test.true c.in_file.ensures c.token_at-t.ensures, grave_past _ _ _ _ _ _ _ c.past_grave-p.ensures c.in-On.is)
 
 pub loop-i-preserved : goal.loop-i-preserved
 loop-i-preserved c = (written_on _ _ _ _ _ _ _ c.loop-i.invariant.0 _ _ c.loop-i-test.true c.in_file.ensures c.token_at-t.ensures c.if-t-ne0.false c.if-t-eq-NAME.false c.if-t-ne-GRAVE.false _ c.past_grave-p.ensures _ _ c.in-On.is, c.past_grave-p.auto.name ∙ c.loop-i.invariant.1, c.past_grave-p.auto.stack ∙ c.loop-i.invariant.2)
-
-pub enum_known-p-in-Stop-1 : goal.enum_known-p-in-Stop-1
-enum_known-p-in-Stop-1 c = c.in-Stop.keys2
 
 pub shape_of-words-in-Stop : goal.shape_of-words-in-Stop
 shape_of-words-in-Stop c = written_length _ _ _ _ _ _ _ c.loop-i.invariant.0

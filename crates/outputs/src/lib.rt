@@ -1,4 +1,4 @@
-// What the technician's command writes to an open descriptor: the flat text with or without marks, its map, its words, macros as
+// What the technician's command writes to an output that is open: the flat text with or without marks, its map, its words, macros as
 // definitions, a rule for make.
 #![tactic(auto)]
 
@@ -8,7 +8,7 @@ mod marks;
 mod rule;
 mod shown;
 
-use libc::STDOUT_FILENO;
+use messages::STDOUT_FILENO;
 pub use listing::{write_map, write_words};
 pub use marks::write_marked;
 pub use rule::write_rule;

@@ -45,12 +45,29 @@ def convert(crate,folder,path):
     if e is None: return f'no names for {key}'
     text=open(path).read()
     if ' Tie as tie' not in text.replace('.Tie as tie',' Tie as tie'): return f'{key}: no Tie (by hand)'
-    needs={o.replace('_','-'):n for o,n in e['needs']}
-    loops={o.replace('_','-'):(n,vs,ch) for ((o,n),vs),ch in zip(e['loops'],e['changed'])}
+    def norm(x): return re.sub(r'-lem(?=$|\d)','',re.sub(r'is-is([a-z])',r'is-\1',x.replace('_','-').lower()))
+    needs={norm(o):n for o,n in e['needs']}
+    byname={}
+    for o,n in e['needs']: byname.setdefault(norm(n),n)
+    for n in e['settled']: byname.setdefault(norm(n),'SETTLED')
+    loops={norm(o):(n,vs,ch) for ((o,n),vs),ch in zip(e['loops'],e['changed'])}
     steps={}
     for name,parent,step,_,_ in e['places']:
         o,n=step
-        if o: steps[o.replace('_','-')]=n
+        if o: steps[norm(o)]=n
+    calls={}
+    armed={}
+    called={x[3].split('::')[-1] for x in e['places'] if x[3]}
+    placed={}
+    for (name,parent,step,fun,_),arm,nn in zip(e['places'],e['arms'],e['places_by_name']):
+        placed[norm(name)]=nn
+        if fun: calls[norm(step[0])]=e['params'].get(fun)
+        if arm:
+            an,k,items=arm
+            for it in items:
+                if len(it)==3:
+                    new,old,pth=it
+                    armed.setdefault(norm(old),[]).append((pth,an,new))
     notes=[]
     def turn_chain(m):
         s=m.group(0)
@@ -59,8 +76,25 @@ def convert(crate,folder,path):
         segs=s.split('.')
         if segs[0] in ('tie','goal') or not segs[0] or segs[0][0].isupper(): return s
         segs=[segs[0]]+[x for x in segs[1:] if x!='before']
-        if len(segs)>1 and segs[1].replace('_','-') in steps:
-            segs[1]=steps[segs[1].replace('_','-')]
+        if len(segs)>1:
+            s1=norm(segs[1])
+            if s1 in('well-formed','type-inv'): segs[1]=s1.replace('-','_')
+            best=None
+            for pth,an,new in armed.get(s1,[]):
+                if pth and segs[2:2+len(pth)]==pth and (best is None or len(pth)>len(best[0])): best=(pth,an,new)
+            if best:
+                segs=[segs[0],best[1],best[2]]+segs[2+len(best[0]):]
+            elif s1 in steps:
+                ps=calls.get(s1)
+                if ps and len(segs)>3 and segs[2] in ('new','auto') and segs[3] in '01':
+                    k=3
+                    while k<len(segs) and segs[k]=='1': k+=1
+                    if k<len(segs) and segs[k]=='0' and k-3<len(ps):
+                        segs[3:k+1]=[ps[k-3]]
+                    elif k==len(segs) and k-3<len(ps): segs[3:k]=[ps[k-3]]
+                segs[1]=steps[s1]
+        if len(segs)==3 and '-not-' in segs[1] and segs[2] in ('true','false') and re.sub(r'-.*','',segs[1].split('-not-')[1]) in called:
+            return f"({'not_from_false' if segs[2]=='true' else 'not_from_true'} _ {'.'.join(segs)})"
         return '.'.join(segs)
     def body(lines,sub=None):
         t='\n'.join(lines)
@@ -79,23 +113,32 @@ def convert(crate,folder,path):
         core=[x for x in b if not x.startswith('--')]
         sig=core[0]
         m=re.match(r'((?:abbrev |pub |unfoldable )*)(\S+) : (.*)$',sig)
-        if m and 'tie.' in m.group(3):
+        if m and m.group(3).startswith('tie.'):
             t=re.match(r'tie\.(\S+)(.*)',m.group(3))
             name=m.group(2)
             if not t: notes.append('odd '+sig); helpers.append(src); continue
             what=t.group(1)
             mm=re.match(r'Need-(.*)',what)
             if mm:
-                old=mm.group(1).replace('_','-')
-                if old not in needs: notes.append(f'no goal for {what}'); new='LOST-'+old
-                else: new=needs[old]
+                old=norm(mm.group(1))
+                short=re.sub(r'^(overflow|bounds|nonzero|slice-bounds)-','',old)
+                if old in needs: new=needs[old]
+                elif old in byname: new=byname[old]
+                elif short in needs: new=needs[short]
+                else:
+                    safe=re.match(r'(overflow|bounds|nonzero|slice|same-length|shape-of|add|sub|mul|div|rem|cast|part|shared)',old)
+                    notes.append(f'no goal for {what}'+(' (left to auto)' if safe else ''))
+                    if safe: continue
+                    new='LOST-'+old
+                if new=='SETTLED': notes.append(what+' settled'); continue
                 rest=core[1:]
+                rest=[re.sub(r'^('+re.escape(name)+r' \S+) κs(?= )',r'\1',x) for x in rest]
                 rest=[re.sub(r'^'+re.escape(name)+r'(?=\s)',new,x) for x in rest]
                 ans.append('\n'.join(lead+[f'pub {new} : goal.{new}']+body(rest).split('\n')))
                 continue
             mm=re.match(r'(invariant|decreases|measure)-(.*)',what)
             if mm:
-                old=mm.group(2).replace('_','-')
+                old=norm(mm.group(2))
                 if old in loops:
                     n,vs,ch=loops[old]
                     rest=core[1:]
@@ -133,15 +176,25 @@ def convert(crate,folder,path):
             ninv=len([1 for a in args if re.match(r'(invariant|decreases|measure)',a)])
             goals=[n for o,n in e['needs']]
             rest=args[ninv:]
-            if len(rest)!=len(goals): notes.append(f'{len(rest)} answers for {len(goals)} goals')
-            else:
-                for a,g in zip(rest,goals):
-                    if a.startswith('(λ') and not re.search(r'search rules\)$|omega arith\)$|\. tt\)$|search needs\)$',a):
+            if len(rest)!=len(goals): rest=[a for a in rest if not re.match(r'\(λ c κs\.',a)]
+            unf=[x for x in core[1:] if x.startswith('unfolding ')]
+            trivial=lambda a: bool(re.search(r'search rules\)$|omega arith\)$|\. tt\)$|search needs\)$|(?<!=)\. refl\)$',a)) or not a.startswith('(λ')
+            pairs=list(zip(rest,goals)) if len(rest)==len(goals) else None
+            if pairs is None:
+                inline=[a for a in rest if not trivial(a)]
+                free=[g for g in goals if re.match(r'returns',g) and ('pub '+g+' : ') not in '\n'.join(ans)]
+                if len(inline)==len(free): pairs=list(zip(inline,free))
+                elif inline: notes.append(f'{len(rest)} answers for {len(goals)} goals, {len(inline)} inline for {len(free)}: {inline[:3]}')
+            if pairs:
+                for a,g in pairs:
+                    if a.startswith('(λ') and not re.search(r'search rules\)$|omega arith\)$|\. tt\)$|search needs\)$|(?<!=)\. refl\)$',a):
                         mm=re.match(r'\(λ ([^.]*)\. (.*)\)$',a,re.S)
                         if mm and 'goal.'+g+'\n' not in '\n'.join(ans):
-                            ans.append(f'pub {g} : goal.{g}\n{g} {mm.group(1)} = '+CHAIN.sub(turn_chain,mm.group(2)))
+                            ans.append('\n'.join([f'pub {g} : goal.{g}']+unf+[f'{g} {mm.group(1)} = '+CHAIN.sub(turn_chain,mm.group(2))]))
             continue
-        helpers.append('\n'.join(lead+body(core).split('\n')))
+        ht=body(core)
+        ht=re.sub(r'tie\.([A-Z][\w-]*)',lambda mm: 'goal.'+placed.get(norm(mm.group(1)),mm.group(1)),ht)
+        helpers.append('\n'.join(lead+ht.split('\n')))
     def select(uselines,bodytext,what):
         out=[]
         words=set()
@@ -160,6 +213,8 @@ def convert(crate,folder,path):
                     if ok: keep.append(it)
                 if keep: out.append(f'use {m.group(1)}.{{{", ".join(keep)}}}')
             else: out.append(u)
+        nots=[x for x in ('not_from_true','not_from_false') if x in words]
+        if nots: out.append(f'use Rattle.std.proofs.lemmas.Bool.{{{", ".join(nots)}}}')
         out.append(f'use Rattle.{crate}.proofs.{fn}.{what} as goal')
         return out
     d=os.path.dirname(path)

@@ -24,9 +24,12 @@ module _ (r : List (List ℕ)) where
   wider {k} (past {m = m} l h w) = let b : m < k + 1 = omega arith in past b h (wider w)
 
   -- two ways that meet at k
+  meet_at : {k i t j : ℕ} → t ≡ k → Inner r k i t → Inner r k t j → Inner r (k + 1) i j
+  meet_at {k} {t = t} e (straight h) v = let b : t < k + 1 = omega arith in past b h (wider v)
+  meet_at {k} e (past {m = m} l h w) v = let b : m < k + 1 = omega arith in past b h (meet_at e w v)
+
   meet : {k i j : ℕ} → Inner r k i k → Inner r k k j → Inner r (k + 1) i j
-  meet {k} (straight h) v = let b : k < k + 1 = omega arith in past b h (wider v)
-  meet {k} (past {m = m} l h w) v = let b : m < k + 1 = omega arith in past b h (meet w v)
+  meet u v = meet_at refl u v
 
   -- a way that may pass k does not, or comes to k and goes on from there
   part : {k i j : ℕ} → Inner r (k + 1) i j → Inner r k i j ⊎ (Inner r k i k × Inner r k k j)

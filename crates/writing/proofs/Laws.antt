@@ -1,7 +1,7 @@
 -- Laws of what is written: of bytes with their places, of one list behind another, and of the stores of both.
 -- Assumes nothing.
 use Prim.Native.Nat.{ℕ, suc, ◌+◌}
-use mathlib.Core.Bool.{Bool, true, false}
+use mathlib.Core.Bool.{Bool, true, false, cond}
 use mathlib.Core.List.{List, [], ◌∷◌, ◌++◌}
 use mathlib.Core.Path.{◌≡◌, refl, ap, ◌∙◌}
 use native.Mathlib.Nat.{add-zero, add_assoc}
@@ -18,12 +18,12 @@ use Rattle.writing.specs.Buffers.{line_count, spot_after, Puts}
 pub text_placed : (step p : ℕ) (w : List ℕ) → text_of (placed step p w) ≡ w
 unfolding placed text_of
 text_placed step p [] = refl
-text_placed step p (b ∷ bs) = ap (λ (l : List ℕ). b ∷ l) (text_placed step _ bs)
+text_placed step p (b ∷ bs) = ap (λ (l : List ℕ). b ∷ l) (text_placed step (cond (eqb b 10) (p + step) p) bs)
 
 pub length_placed : (step p : ℕ) (w : List ℕ) → length (placed step p w) ≡ length w
 unfolding placed
 length_placed step p [] = refl
-length_placed step p (b ∷ bs) = ap suc (length_placed step _ bs)
+length_placed step p (b ∷ bs) = ap suc (length_placed step (cond (eqb b 10) (p + step) p) bs)
 
 -- a map has an entry for each line
 pub map_length : (fresh : Bool) (ws : List Written) → length (map_of fresh ws) ≡ line_count fresh (text_of ws)

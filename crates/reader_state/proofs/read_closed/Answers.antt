@@ -1,0 +1,13 @@
+-- `reader_state::read_closed` meets its contract. It branches as its definition does.
+-- Assumes nothing.
+use Rattle.reader_state.specs.States.{closed}
+use Rattle.reader_state.proofs.Feeding.{fed_at}
+use Rattle.reader_state.proofs.read_closed.Goals as goal
+
+pub returns-then-is_spoilt : goal.returns-then-is_spoilt
+unfolding closed
+returns-then-is_spoilt c = simp (← c.is_spoilt.ensures c.args.stack.now, c.if-is_spoilt.true) (fed_at c.requires c.at_state.ensures)
+
+pub returns : goal.returns
+unfolding closed
+returns c = simp (← c.is_spoilt.ensures c.args.stack.now, c.if-is_spoilt.false) c.read_fresh.ensures

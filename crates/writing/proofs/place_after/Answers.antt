@@ -1,0 +1,10 @@
+-- `writing::place_after` meets its contract.
+-- Assumes nothing.
+use borrow.Author.Tests.{eq-eqb, ne_eqb}
+use Rattle.writing.proofs.place_after.Goals as goal
+
+pub returns-then-b-eq10 : goal.returns-then-b-eq10
+returns-then-b-eq10 c = rw (eq-eqb _ _ c.if-b-eq10.true)
+
+pub returns-else-b-eq10 : goal.returns-else-b-eq10
+returns-else-b-eq10 c = rw (ne_eqb _ _ c.if-b-eq10.false)

@@ -14,6 +14,7 @@ use plan::{
 use records::Record;
 use refusals::{refuse, sum_up};
 use search::say_missing;
+use std::rt::Files;
 use text::part_of;
 use warnings::warn_all;
 
@@ -57,17 +58,19 @@ fn answer_pass(bytes: &[u8], records: [Record; 4096]) -> u8 {
 }
 
 // Look up of that name, on the macros that are left.
-fn answer_lookup(name: &[u8], bytes: &[u8], records: [Record; 4096]) -> u8 {
+fn answer_lookup(rt: &HostRuntime, name: &[u8], bytes: &[u8], records: [Record; 4096]) -> u8 {
     let form = own::look_up(bytes, records, name);
     if form.len() == 0 {
         complain(name, b"this macro is not defined");
         return REFUSED;
     }
-    if outputs::show_macro(libc::STDOUT_FILENO, form, look_up::plain_name(name).len()) {
-        return DONE;
+    match outputs::show_macro(&mut rt.stdout(), form, look_up::plain_name(name).len()) {
+        Ok(()) => DONE,
+        Err(error) => {
+            inputs::fail_at(b"standard output", error);
+            FAILED
+        }
     }
-    inputs::fail_at(b"standard output");
-    FAILED
 }
 
 // The words of the flat text, where they are asked for.
@@ -102,6 +105,7 @@ fn answer_written(written: bool, r: Flattened, plan: &[usize]) -> u8 {
 
 // Writes what is asked of a flat text, unless its words are refused.
 fn write_flat(
+    rt: &HostRuntime,
     r: Flattened,
     line: &[u8],
     rows: &[[u32; 5]],
@@ -124,7 +128,7 @@ fn write_flat(
     }
     note_counts(r, c, plan);
     let written = deliver(
-        line, rows, plan, flat, store, table, paths, map, &words, included, bytes, records,
+        rt, line, rows, plan, flat, store, table, paths, map, &words, included, bytes, records,
     );
     answer_written(written, r, plan)
 }
@@ -151,6 +155,7 @@ fn answer_refused(
 
 // Whether the warnings let the run go on; `included` gets where each file is included.
 fn pass_warnings(
+    files: &impl Files,
     r: Flattened,
     line: &[u8],
     rows: &[[u32; 5]],
@@ -163,6 +168,7 @@ fn pass_warnings(
 ) -> bool {
     let silent = get(plan, SILENT) != 0;
     let n = warn_all(
+        files,
         store,
         table,
         paths,
@@ -183,6 +189,7 @@ fn pass_warnings(
 
 // Writes what is asked of a flattening, or why it is refused; pass and look up ask nothing to be written.
 fn finish_with(
+    rt: &HostRuntime,
     r: Flattened,
     write: bool,
     line: &[u8],
@@ -201,14 +208,25 @@ fn finish_with(
         return answer_refused(r, plan, store, table, paths, starts);
     }
     let mut included = [0u32; 64];
-    if !pass_warnings(r, line, rows, plan, store, table, paths, map, &mut included) {
+    if !pass_warnings(
+        rt,
+        r,
+        line,
+        rows,
+        plan,
+        store,
+        table,
+        paths,
+        map,
+        &mut included,
+    ) {
         return REFUSED;
     }
     if !write {
         return DONE;
     }
     write_flat(
-        r, line, rows, plan, store, table, paths, text, map, &included, bytes, records,
+        rt, r, line, rows, plan, store, table, paths, text, map, &included, bytes, records,
     )
 }
 
@@ -221,6 +239,7 @@ pub struct Left {
 
 // The same, with as much of the tables as is filled in.
 pub fn finish(
+    rt: &HostRuntime,
     o: Own,
     write: bool,
     line: &[u8],
@@ -240,15 +259,21 @@ pub fn finish(
     let files = &table[0..n];
     let named = &paths[0..n];
     let digit = finish_with(
-        r, write, line, rows, plan, store, files, named, starts, text, map, bytes, records,
+        rt, r, write, line, rows, plan, store, files, named, starts, text, map, bytes, records,
     );
     Left { digit, records }
 }
 
 // Pass, or look up, on the macros that are left.
-pub fn answer_macros(command: usize, name: &[u8], bytes: &[u8], records: [Record; 4096]) -> u8 {
+pub fn answer_macros(
+    rt: &HostRuntime,
+    command: usize,
+    name: &[u8],
+    bytes: &[u8],
+    records: [Record; 4096],
+) -> u8 {
     if command == PASS {
         return answer_pass(bytes, records);
     }
-    answer_lookup(name, bytes, records)
+    answer_lookup(rt, name, bytes, records)
 }

@@ -7,7 +7,7 @@ use messages::WRAPPER;
 use session::answer;
 
 // The store has one byte more than is taken, so that more shows.
-fn main() {
+fn main(rt: HostRuntime) {
     let mut store = [0u8; 1048577];
     let mut line = [0u8; 131072];
     let mut words = [[0u32; 2]; 4096];
@@ -15,7 +15,7 @@ fn main() {
     let mut plan = [0usize; 50];
     let mut bytes = [0u8; 65536];
     let digit = [answer(
-        &mut line, &mut words, &mut rows, &mut plan, &mut store, &mut bytes,
+        &rt, &mut line, &mut words, &mut rows, &mut plan, &mut store, &mut bytes,
     )];
     io::write_all(WRAPPER, &digit);
 }

@@ -83,13 +83,7 @@ fn check_outputs(line: &[u8], plan: &[usize]) -> bool {
 }
 
 // Whether outputs `a` and `b` are both given, and go to one file.
-fn are_one(
-    rt: &(impl Files + Alloc),
-    line: &[u8],
-    plan: &[usize],
-    a: usize,
-    b: usize,
-) -> bool {
+fn are_one(rt: &(impl Files + Alloc), line: &[u8], plan: &[usize], a: usize, b: usize) -> bool {
     if !is_given(line, plan, a) {
         return false;
     }
@@ -117,13 +111,7 @@ fn check_apart(rt: &(impl Files + Alloc), line: &[u8], plan: &[usize]) -> bool {
 }
 
 // Whether output `k` would overwrite the file `read`.
-fn clashes_at(
-    files: &impl Files,
-    line: &[u8],
-    plan: &[usize],
-    k: usize,
-    read: Identity,
-) -> bool {
+fn clashes_at(files: &impl Files, line: &[u8], plan: &[usize], k: usize, read: Identity) -> bool {
     let path = output_path(line, plan, k);
     if (k != TEXT) & (path.len() == 0) {
         return false;
@@ -171,7 +159,12 @@ fn check_read(files: &impl Files, line: &[u8], rows: &[[u32; 5]], plan: &[usize]
 }
 
 // Whether the plan can be carried out; with a message where it cannot.
-pub fn check_plan(rt: &(impl Files + Alloc), line: &[u8], rows: &[[u32; 5]], plan: &[usize]) -> bool {
+pub fn check_plan(
+    rt: &(impl Files + Alloc),
+    line: &[u8],
+    rows: &[[u32; 5]],
+    plan: &[usize],
+) -> bool {
     if get(plan, DUE) != FILE {
         return bad(b"the last option", b"its value is missing");
     }

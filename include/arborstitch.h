@@ -1,6 +1,6 @@
 /* Arborstitch for C: the reserved words of a SystemVerilog text.
  *
- * Link with libclassify.a (`rt staticlib classify`). What each function does is proved in
+ * Link with libclassify.a (`bin/libclassify` makes target/staticlib/libclassify.a). What each function does is proved in
  * Rattle; nothing checks a caller, who must pass pointers to as many elements as it says. */
 #ifndef ARBORSTITCH_H
 #define ARBORSTITCH_H

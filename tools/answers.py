@@ -57,6 +57,15 @@ def convert(crate,folder,path):
         if o: steps[norm(o)]=n
     calls={}
     armed={}
+    srctext=''
+    for dp2,dn2,fs2 in os.walk(os.path.join(folder,'src')):
+        for f2 in fs2:
+            if f2.endswith('.rt'): srctext+=open(os.path.join(dp2,f2)).read()+'\n'
+    mfn=re.search(r'fn '+re.escape(fn.split('.')[-1])+r'(?:<[^>]*>)?\((.*?)\n?\)(?: ->|\s|\n)(.*?)\n}',srctext,re.S)
+    params=[]; negated=set()
+    if mfn:
+        params=[x.strip().split(':')[0].replace('mut ','').strip() for x in re.split(r',\s*(?=(?:mut )?\w+\s*:)',mfn.group(1).strip().rstrip(','))]
+        negated=set(re.findall(r'!\(+(\w+)',mfn.group(2)))
     called={x[3].split('::')[-1] for x in e['places'] if x[3]}
     placed={}
     for (name,parent,step,fun,_),arm,nn in zip(e['places'],e['arms'],e['places_by_name']):
@@ -76,9 +85,12 @@ def convert(crate,folder,path):
         segs=s.split('.')
         if segs[0] in ('tie','goal') or not segs[0] or segs[0][0].isupper(): return s
         segs=[segs[0]]+[x for x in segs[1:] if x!='before']
-        if len(segs)>1:
+        if len(segs)>2 and segs[-1] in ('taken','left') and segs[1].startswith('if'): segs[-1]={'taken':'true','left':'false'}[segs[-1]]
+        if len(segs)>1 and segs[0] in roots:
             s1=norm(segs[1])
             if s1 in('well-formed','type-inv'): segs[1]=s1.replace('-','_')
+            if s1=='args' and len(segs)>2 and re.fullmatch(r't\d+',segs[2]) and segs[2] not in params and int(segs[2][1:])<=len(params): segs[2]=params[int(segs[2][1:])-1]
+            if len(segs)>2 and segs[2]=='type-inv': segs[2]='type_inv'
             best=None
             for pth,an,new in armed.get(s1,[]):
                 if pth and segs[2:2+len(pth)]==pth and (best is None or len(pth)>len(best[0])): best=(pth,an,new)
@@ -86,20 +98,21 @@ def convert(crate,folder,path):
                 segs=[segs[0],best[1],best[2]]+segs[2+len(best[0]):]
             elif s1 in steps:
                 ps=calls.get(s1)
-                if ps and len(segs)>3 and segs[2] in ('new','auto') and segs[3] in '01':
+                if ps and len(segs)>3 and segs[2] in ('new','auto','type_inv') and segs[3] in '01':
                     k=3
                     while k<len(segs) and segs[k]=='1': k+=1
                     if k<len(segs) and segs[k]=='0' and k-3<len(ps):
                         segs[3:k+1]=[ps[k-3]]
                     elif k==len(segs) and k-3<len(ps): segs[3:k]=[ps[k-3]]
                 segs[1]=steps[s1]
-        if len(segs)==3 and '-not-' in segs[1] and segs[2] in ('true','false') and re.sub(r'-.*','',segs[1].split('-not-')[1]) in called:
+        if len(segs)==3 and '-not-' in segs[1] and segs[2] in ('true','false') and (re.sub(r'-.*','',segs[1].split('-not-')[1]) in called or re.sub(r'-.*','',segs[1].split('-not-')[1]) in negated):
             return f"({'not_from_false' if segs[2]=='true' else 'not_from_true'} _ {'.'.join(segs)})"
         return '.'.join(segs)
     def body(lines,sub=None):
         t='\n'.join(lines)
         t=CHAIN.sub(turn_chain,t)
         return t
+    roots={'c'}|{m.group(1) for m in re.finditer(r'let (\S+) = c(?:\.before)* in',text)}|{m.group(1) for m in re.finditer(r'\((\S+) : tie\.[A-Z]',text)}
     uses=[];inv=[];ans=[];helpers=[];head=[]
     for b in blocks_of(text):
         src='\n'.join(b)
@@ -193,6 +206,7 @@ def convert(crate,folder,path):
                             ans.append('\n'.join([f'pub {g} : goal.{g}']+unf+[f'{g} {mm.group(1)} = '+CHAIN.sub(turn_chain,mm.group(2))]))
             continue
         ht=body(core)
+        ht=re.sub(r'(tie\.[A-Z][\w-]*)((?: (?:invariant|decreases)-[\w-]+)+)',r'\1',ht)
         ht=re.sub(r'tie\.([A-Z][\w-]*)',lambda mm: 'goal.'+placed.get(norm(mm.group(1)),mm.group(1)),ht)
         helpers.append('\n'.join(lead+ht.split('\n')))
     def select(uselines,bodytext,what):

@@ -12,11 +12,8 @@ import sys
 SEPARATE = ' \t\n(){}[].,;"⌜⌝⟦⟧'
 TOKEN = re.compile('[^' + re.escape(SEPARATE) + ']+')
 WORDS = ('pub', 'abbrev', 'unfoldable', 'data', 'record', 'ruleset')
-# Lemmas that port.py has spelled as a definition is spelled now: each takes the ending that the kit gives such a lemma.
-LEMMAS = {
-    ('text', 'by_first'), ('formals', 'formals_from'), ('genuine', 'formals_from'), ('expand', 'goes_on'),
-    ('look_up', 'shown_by'), ('lent', 'not_taken'),
-}
+# Lemmas that port.py has spelled as a definition is spelled now: where both meet, the lemma takes the ending that the kit gives it.
+LEMMAS = {'by_first', 'formals_from', 'goes_on', 'shown_by', 'not_taken'}
 
 
 def snake(name):
@@ -101,6 +98,10 @@ def turned(text, table, foreign):
     return ''.join(pieces)
 
 
+def crate_of(top, path):
+    return os.path.relpath(path, os.path.join(top, 'crates')).split(os.sep)[0]
+
+
 def meet(top, table, crates):
     """The names that would be one in some file."""
     for path in antt_files(top):
@@ -123,6 +124,7 @@ def main():
         for word in words:
             if '-' in word:
                 table.pop(word, None)
+    met = {(crate_of(top, path), to) for to, words, path in meet(top, table, crates) if to in LEMMAS}
     if '--list' in sys.argv:
         for to, words, path in meet(top, table, crates):
             print('falls together:', to, sorted(words), path)
@@ -130,8 +132,8 @@ def main():
         return
     for path in antt_files(top):
         text = open(path).read()
-        own = os.path.relpath(path, os.path.join(top, 'crates')).split(os.sep)[0]
-        here = {**table, **{name: name + '_lem' for crate, name in LEMMAS if crate == own and '/specs/' not in path}}
+        own = crate_of(top, path)
+        here = {**table, **{name: name + '_lem' for crate, name in met if crate == own and '/specs/' not in path}}
         new = turned(text, here, set(imported(text, crates)))
         if new != text:
             open(path, 'w').write(new)

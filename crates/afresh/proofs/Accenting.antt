@@ -18,8 +18,8 @@ use Rattle.lex.proofs.Tests.{by_test}
 use Rattle.lex.proofs.Progress.{token-at, token_ends}
 use Rattle.names.specs.Names.{bars_text}
 use Rattle.storing.specs.Stored.{trim_right}
-use Rattle.reader_state.specs.States.{is_open, Start, Word, Accent, Slanted, Bad, fresh, in_accent, in_marked, in_short, outside, reading, leaves, ended}
-use Rattle.afresh.specs.Unfit.{is_accented, is_unfit}
+use Rattle.afresh.specs.Unfit.{is_open, is_accented, is_unfit}
+use Rattle.afresh.specs.States.{Start, Word, Accent, Slanted, Bad, fresh, in_accent, in_marked, in_short, outside, reading, leaves, ended}
 use Rattle.afresh.proofs.Sorts.{or_true, apart}
 use Rattle.afresh.proofs.Going.{Hold, quoted, under, standing, bare, start, verdict, spoils, goes, bad_stays, barred, passed, spoilt_next}
 use Rattle.afresh.proofs.Placing.{byte_at, goes_on, part_from, Reads}

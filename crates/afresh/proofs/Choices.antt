@@ -4,10 +4,28 @@ use Prim.Native.Nat.{ℕ}
 use mathlib.Core.Bool.{true, false}
 use mathlib.Core.List.{[], ◌∷◌}
 use mathlib.Core.Path.{◌≡◌}
-use borrow.Author.Tests.{ne_eqb}
-use Rattle.reader_state.specs.States.{State, at, slant, in_solid, in_slanted, in_twice, Bad}
+use borrow.Author.Tests.{eq-eqb, ne_eqb}
+use Rattle.afresh.specs.States.{State, at, single, sign, slant, in_solid, in_slanted, in_twice, Slash, Solid, Bad}
 
 module _ (q : State) (x : ℕ) where
+  pub sign_marked : q.marks ≡ true → sign q x ≡ single q x
+  unfolding sign
+  sign_marked m = rw m
+
+  module _ (m : q.marks ≡ false) where
+    pub sign_slash : x ≡ 47 → sign q x ≡ at Slash q
+    unfolding sign
+    sign_slash e = rw (m, eq-eqb x 47 e)
+
+    module _ (n : x ≡ 47 → ⊥) where
+      pub sign_solid : x ≡ 92 → sign q x ≡ at Solid q
+      unfolding sign
+      sign_solid e = rw (m, ne_eqb x 47 n, eq-eqb x 92 e)
+
+      pub sign_single : (x ≡ 92 → ⊥) → sign q x ≡ single q x
+      unfolding sign
+      sign_single e = rw (m, ne_eqb x 47 n, ne_eqb x 92 e)
+
   module _ (n : x ≡ 96 → ⊥) where
     pub slanted_bad : q.marks ≡ true → in_slanted q x ≡ at Bad q
     unfolding in_slanted

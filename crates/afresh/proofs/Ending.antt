@@ -11,7 +11,7 @@ use lib.Seq.{take_at}
 use borrow.Author.Tests.{eqb-true}
 use Rattle.lex.specs.Classes.{is_white, is_space}
 use Rattle.storing.specs.Stored.{keep, trim_right}
-use Rattle.reader_state.specs.States.{Start, Line, fresh, in_line, in_marked, in_short, outside}
+use Rattle.afresh.specs.States.{Start, Line, fresh, in_line, in_marked, in_short, outside}
 use Rattle.afresh.proofs.Sorts.{apart, space_legal}
 use Rattle.afresh.proofs.Going.{Hold, marks_of, standing, start, verdict, spoils, goes, passed, clear, closes}
 use Rattle.afresh.proofs.Placing.{longer_by}

@@ -15,8 +15,8 @@ use Rattle.lex.specs.declared.Scan.{Scan}
 use Rattle.lex.specs.declared.Token.{Token}
 use Rattle.brackets.specs.Steps.{step_of}
 use Rattle.storing.specs.Stored.{trim_right}
-use Rattle.reader_state.specs.States.{Start, Solid, State, sign, fresh, outside}
 use Rattle.afresh.specs.Unfit.{is_accented, is_unfit}
+use Rattle.afresh.specs.States.{Start, Solid, State, sign, fresh, outside}
 use Rattle.afresh.proofs.Sorts.{or_true}
 use Rattle.afresh.proofs.Going.{Hold, quoted, under, is_text, marks_of, bare, start, verdict, goes, passed, clear}
 use Rattle.afresh.proofs.Placing.{reads_first}

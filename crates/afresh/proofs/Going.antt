@@ -9,7 +9,8 @@ use Rattle.lex.specs.Classes.{is_legal}
 use Rattle.lex.proofs.Tests.{by_test}
 use Rattle.names.specs.Names.{bars_text}
 use Rattle.brackets.specs.Steps.{Step, on, done, torn, step_of}
-use Rattle.reader_state.specs.States.{is_open, Start, Bad, State, state, is_string, by_bracket, sign, fresh, closed, in_short, in_marked, outside, next, reading, leaves, ended}
+use Rattle.afresh.specs.Unfit.{is_open}
+use Rattle.afresh.specs.States.{Start, Bad, State, state, is_string, by_bracket, sign, fresh, closed, in_short, in_marked, outside, next, reading, leaves, ended}
 use Rattle.afresh.proofs.Sorts.{or_true, and_false}
 
 -- what a reading holds between two tokens: of a text, whether it stands between quote marks; of a default, the brackets due

@@ -8,12 +8,12 @@ use native.Mathlib.Omega.{arith}
 use lib.ListN.{length, set, length-set}
 use lib.Seq.{take-suc-set}
 use Rattle.brackets.specs.Stacks.{stack_of}
-use Rattle.reader_state.specs.States.{State, state, shorn, slant, closed, in_solid}
-use Rattle.reader_state.specs.Feeding.{state_of, Sound, FedBy}
-use Rattle.reader_state.specs.declared.Reading.{Reading}
-use Rattle.reader_state.specs.declared.Fed.{Fed}
-use Rattle.reader_state.specs.declared.Fed.TheVariants as fed
-use Rattle.reader_state.proofs.Feeding.{named, name_shorn, named_sound, fed_as}
+use Rattle.afresh.specs.States.{State, state, shorn, slant, closed, in_solid}
+use Rattle.afresh.specs.Feeding.{state_of, Sound, FedBy}
+use Rattle.afresh.specs.declared.Reading.{Reading}
+use Rattle.afresh.specs.declared.Fed.{Fed}
+use Rattle.afresh.specs.declared.Fed.TheVariants as fed
+use Rattle.afresh.proofs.Feeding.{named, name_shorn, named_sound, fed_as}
 
 -- the reading r' that was handed on, by what it is
 pub handed_sound : {r r' : Reading} {k m : ℕ} {g : Bool} {n w : List ℕ} → Sound r n w → r' ≡ named r k g m → m ≤ 1025 → Sound r' n w

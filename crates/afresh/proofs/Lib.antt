@@ -1,3 +1,5 @@
+pub mod Feeding
+pub mod Singles
 pub mod Choices
 pub mod Handing
 pub mod Verdicts

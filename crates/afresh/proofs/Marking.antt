@@ -18,7 +18,8 @@ use Rattle.lex.proofs.Tests.{and_left, and_right, true_false}
 use Rattle.lex.proofs.Progress.{span_inside}
 use Rattle.names.specs.Names.{macro_directives, state_directives, other_directives, number_in, other_of, state_of, directive_of, bars_text}
 use Rattle.storing.specs.Stored.{trim_right}
-use Rattle.reader_state.specs.States.{is_open, Solid, Slanted, Twice, in_solid, in_slanted, in_twice, in_marked, in_short, outside, reading, leaves, ended}
+use Rattle.afresh.specs.Unfit.{is_open}
+use Rattle.afresh.specs.States.{Solid, Slanted, Twice, in_solid, in_slanted, in_twice, in_marked, in_short, outside, reading, leaves, ended}
 use Rattle.afresh.proofs.Sorts.{and_false}
 use Rattle.afresh.proofs.Going.{Hold, quoted, standing, bare, start, verdict, goes, passed, spoilt_next, alike}
 use Rattle.afresh.proofs.Placing.{byte_at, goes_on, reads_first}

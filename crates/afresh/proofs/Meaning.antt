@@ -18,9 +18,9 @@ use Rattle.lex.proofs.Listing.{tokens_out, file-tokens}
 use Rattle.brackets.specs.Steps.{Step, on, done, torn}
 use Rattle.storing.specs.Stored.{trim_right}
 use Rattle.storing.proofs.Reading.{text_next}
-use Rattle.reader_state.specs.States.{is_open, begun, reading, leaves, ended}
 use Rattle.afresh.specs.Judging.{barred_grave}
-use Rattle.afresh.specs.Unfit.{is_accented, held_by, unless, is_unfit, unfit_in, unfit_text, unfit_held, unfit_default}
+use Rattle.afresh.specs.Unfit.{is_open, is_accented, held_by, unless, is_unfit, unfit_in, unfit_text, unfit_held, unfit_default}
+use Rattle.afresh.specs.States.{begun, reading, leaves, ended}
 use Rattle.afresh.specs.Unfit.{is_unfit_as}
 use Rattle.afresh.proofs.Sorts.{or_false}
 use Rattle.afresh.proofs.Going.{Hold, quoted, under, start, verdict}

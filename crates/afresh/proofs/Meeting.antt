@@ -13,7 +13,7 @@ use Rattle.text.proofs.Matching.{part_none}
 use Rattle.lex.specs.Classes.{is_white, is_digit, is_start, is_legal}
 use Rattle.lex.specs.Scans.{run_from, run_end}
 use Rattle.lex.specs.Tokens.{White, Newline, Name, Number, Dollar, Byte, plain, named}
-use Rattle.reader_state.specs.States.{Start, Word, Run, Bad, single, sign, fresh, outside}
+use Rattle.afresh.specs.States.{Start, Word, Run, Bad, single, sign, fresh, outside}
 use Rattle.afresh.proofs.Sorts.{or_true, apart, run_legal}
 use Rattle.afresh.proofs.Going.{Hold, marks_of, standing, bare, start, verdict, spoils, goes, bad_stays, barred, passed, clear}
 use Rattle.afresh.proofs.Placing.{Reads}

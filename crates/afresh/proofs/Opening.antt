@@ -12,7 +12,8 @@ use Rattle.text.specs.Bytes.{holds, part}
 use Rattle.lex.specs.Scans.{scan, string_from, string_end}
 use Rattle.lex.specs.Tokens.{String, plain, scanned, string_token}
 use Rattle.lex.specs.declared.Scan.{Scan}
-use Rattle.reader_state.specs.States.{is_open, Start, Open, Within, Pair, fresh, in_string, in_short, outside, next, reading, leaves, ended}
+use Rattle.afresh.specs.Unfit.{is_open}
+use Rattle.afresh.specs.States.{Start, Open, Within, Pair, fresh, in_string, in_short, outside, next, reading, leaves, ended}
 use Rattle.afresh.proofs.Sorts.{or_true}
 use Rattle.afresh.proofs.Going.{Hold, marks_of, due_of, bare, start, verdict, fresh_alike, goes, passed, spoilt_next, alike, clear}
 use Rattle.afresh.proofs.Placing.{byte_at, rest_at, part_one}

@@ -14,7 +14,8 @@ use Rattle.lex.specs.Classes.{is_legal}
 use Rattle.lex.specs.Scans.{scan, string_from}
 use Rattle.lex.specs.declared.Scan.{Scan}
 use Rattle.lex.proofs.Tests.{by_test}
-use Rattle.reader_state.specs.States.{is_open, Within, Escape, Bad, is_string, in_string, next, reading, leaves, ended}
+use Rattle.afresh.specs.Unfit.{is_open}
+use Rattle.afresh.specs.States.{Within, Escape, Bad, is_string, in_string, next, reading, leaves, ended}
 use Rattle.afresh.proofs.Sorts.{or_true}
 use Rattle.afresh.proofs.Going.{Hold, marks_of, due_of, bare, start, verdict, goes, bad_stays}
 use Rattle.afresh.proofs.Placing.{rest_at, part_from, part_one}

@@ -16,7 +16,7 @@ use Rattle.lex.specs.Scans.{scan, span_from}
 use Rattle.lex.specs.declared.Scan.{Scan}
 use Rattle.lex.proofs.Tests.{by_test}
 use Rattle.storing.specs.Stored.{trim_right}
-use Rattle.reader_state.specs.States.{Start, Solid, Doubt, Line, Bad, sign, fresh, closed, in_solid, in_doubt, in_marked, in_short, outside, next, reading, leaves, ended}
+use Rattle.afresh.specs.States.{Start, Solid, Doubt, Line, Bad, sign, fresh, closed, in_solid, in_doubt, in_marked, in_short, outside, next, reading, leaves, ended}
 use Rattle.afresh.proofs.Sorts.{or_true, and_false, apart}
 use Rattle.afresh.proofs.Going.{Hold, is_text, marks_of, standing, bare, start, verdict, spoils, goes, bad_stays, barred, passed, spoilt_next, alike, fresh_alike, clear, closes}
 use Rattle.afresh.proofs.Placing.{byte_at, part_from, Reads, reads_name, reads_long, reads_more, longer_by}

@@ -13,7 +13,8 @@ use Rattle.lex.proofs.Tests.{true_false, by_test}
 use Rattle.names.specs.Names.{number_in, macro_directives, state_directives, other_directives, directive_of, state_of, other_of, bars_text}
 use Rattle.text.specs.Bytes.{bytes, same}
 use Rattle.storing.specs.Stored.{keep, trim_left, trim_right}
-use Rattle.reader_state.specs.States.{is_open, State, state, at, Bad, Start, fresh, spoilt, closed, slant, in_word, in_solid, in_doubt, in_line, in_accent, in_slanted, in_twice, in_tick, in_run, in_string, in_marked, in_short, outside, next, reading, leaves, ended, begun}
+use Rattle.afresh.specs.Unfit.{is_open}
+use Rattle.afresh.specs.States.{State, state, at, Bad, Start, fresh, spoilt, closed, slant, in_word, in_solid, in_doubt, in_line, in_accent, in_slanted, in_twice, in_tick, in_run, in_string, in_marked, in_short, outside, next, reading, leaves, ended, begun}
 
 pub reading_more : (q : State) (xs ys : List ℕ) → reading q (xs ++ ys) ≡ reading (reading q xs) ys
 unfolding reading

@@ -15,9 +15,9 @@ use Rattle.lex.specs.declared.Mode.{Mode}
 use Rattle.lex.specs.declared.Scan.{Scan}
 use Rattle.lex.specs.declared.Token.{Token}
 use Rattle.brackets.specs.Steps.{Step, on, done, torn, step_of}
-use Rattle.reader_state.specs.States.{by_bracket, single}
 use Rattle.afresh.specs.Judging.{barred_grave}
 use Rattle.afresh.specs.Unfit.{is_accented, held_by, unless, is_unfit}
+use Rattle.afresh.specs.States.{by_bracket, single}
 use Rattle.afresh.proofs.Going.{Hold, quoted, under, is_text, marks_of, start, verdict, bad_stays}
 use Rattle.afresh.proofs.Placing.{byte_at, rest_at, part_from}
 

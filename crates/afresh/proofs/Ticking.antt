@@ -13,7 +13,7 @@ use Rattle.lex.specs.Scans.{run_from, run_end, span_end, block_end}
 use Rattle.lex.specs.Tokens.{LineComment, BlockComment, Based, Byte, plain, scanned, slash_token, digits_token, based_token}
 use Rattle.lex.specs.declared.Scan.{Scan}
 use Rattle.brackets.specs.Steps.{step_of}
-use Rattle.reader_state.specs.States.{Based as Digits, Start, Word, Tick, Sign, Slash, State, sign, fresh, closed, in_word, in_tick, in_short, outside, reading, leaves, ended}
+use Rattle.afresh.specs.States.{Based as Digits, Start, Word, Tick, Sign, Slash, State, sign, fresh, closed, in_word, in_tick, in_short, outside, reading, leaves, ended}
 use Rattle.afresh.proofs.Sorts.{or_true, apart, sign_start, sign_base, base_start}
 use Rattle.afresh.proofs.Going.{Hold, is_text, marks_of, standing, bare, start, verdict, fresh_alike, goes, passed, spoilt_next, alike, clear}
 use Rattle.afresh.proofs.Placing.{byte_at}

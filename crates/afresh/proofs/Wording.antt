@@ -14,7 +14,8 @@ use Rattle.text.proofs.Matching.{part_none}
 use Rattle.lex.specs.Classes.{is_start, is_run, is_legal}
 use Rattle.lex.specs.Scans.{run_from}
 use Rattle.lex.proofs.Tests.{by_test}
-use Rattle.reader_state.specs.States.{is_open, Start, Word, Run, Based, Bad, is_string, fresh, in_word, in_run, outside, next, reading, leaves, ended}
+use Rattle.afresh.specs.Unfit.{is_open}
+use Rattle.afresh.specs.States.{Start, Word, Run, Based, Bad, is_string, fresh, in_word, in_run, outside, next, reading, leaves, ended}
 use Rattle.afresh.proofs.Sorts.{apart, run_legal, start_white}
 use Rattle.afresh.proofs.Going.{Hold, marks_of, due_of, standing, bare, start, verdict, is_barred, spoils, goes, bad_stays, passed, alike, fresh_alike, clear, closes}
 use Rattle.afresh.proofs.Placing.{rest_at, part_from, Reads, reads_name, reads_long, reads_more, longer_by}

@@ -1,3 +1,4 @@
 pub mod Judging
 pub mod Unfit
-pub mod Verdicts
+pub mod States
+pub mod Feeding

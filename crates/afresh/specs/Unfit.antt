@@ -8,7 +8,6 @@ use Rattle.text.specs.Bytes.{holds, part}
 use Rattle.lex.specs.Tokens.{in_file, in_text, Newline, LineComment, BlockComment, String, Escaped, Grave, Byte, is, marks_after, tokens}
 use Rattle.lex.specs.declared.Token.{Token}
 use Rattle.brackets.specs.Steps.{Step, on, done, torn, step_of}
-use Rattle.reader_state.specs.States.{is_open}
 use Rattle.afresh.specs.Judging.{is_barred, barred_grave}
 
 -- an escaped name, also behind a grave accent
@@ -46,6 +45,11 @@ is_accented w t = not (is String t) && holds 96 (part w t.at t.end)
 -- what a token does to the closing brackets due
 abbrev pub held_by : List ℕ → Token → List ℕ → Step
 held_by w t ks = cond (is Byte t) (step_of (get_or w t.at 0) ks) (on ks)
+
+-- brackets open at the end
+abbrev pub is_open : List ℕ → Bool
+is_open [] = false
+is_open (k ∷ ks) = true
 
 -- an unshielded `,` or `)`, or unmatched brackets
 abbrev pub unless : Step → (List ℕ → Bool) → Bool

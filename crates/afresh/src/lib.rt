@@ -2,22 +2,241 @@
 #![tactic(auto)]
 
 ghost use Rattle.std.specs.Prelude.{◌≡◌, true, false, not, List, ℕ, ◌*◌, ◌≤◌, length};
-ghost use Rattle.reader_state.specs.States.{in_solid, in_doubt, in_line, in_accent, in_slanted, in_twice, in_tick, in_run, in_string, is_string, in_marked, in_short, outside, next, leaves, ended};
-ghost use Rattle.reader_state.specs.Feeding.{state_of, Sound, FedBy};
-ghost use Rattle.afresh.specs.Verdicts.{verdict_of};
+ghost use Rattle.afresh.specs.States.{naming, longer, single, fresh, closed, in_word, in_solid, in_doubt, in_line, in_accent, in_slanted, in_twice, in_tick, in_run, in_string, is_string, in_marked, in_short, outside, next, leaves, ended, spoilt};
+ghost use Rattle.afresh.specs.States.{sign as sign_of};
+ghost use Rattle.afresh.specs.Feeding.{state_of, Sound, FedBy, verdict_of};
 
-use lex::{is_base, is_legal, is_run, is_sign, is_space, is_start};
-use reader_state::{
-    ACCENT, BAD, BASED, DOUBT, ESCAPE, Fed, LINE, OPEN, PAIR, RUN, Reading, SIGN, SLANTED, SLASH,
-    SOLID, START, TICK, TWICE, WITHIN, WORD, add_byte, at_state, is_spoilt, read_closed,
-    read_fresh, read_word, start_name,
-};
+use brackets::{Stepped, step};
+use lex::{is_base, is_digit, is_legal, is_run, is_sign, is_space, is_start, is_white};
+use names::directive_of;
+use text::part_of;
+
+const START: usize = 0;
+
+const WORD: usize = 1;
+
+const RUN: usize = 2;
+
+const BASED: usize = 3;
+
+const TICK: usize = 4;
+
+const SIGN: usize = 5;
+
+const OPEN: usize = 6;
+
+const WITHIN: usize = 7;
+
+const ESCAPE: usize = 8;
+
+const PAIR: usize = 9;
+
+const SLASH: usize = 10;
+
+const SOLID: usize = 11;
+
+const DOUBT: usize = 12;
+
+const LINE: usize = 13;
+
+const ACCENT: usize = 14;
+
+const SLANTED: usize = 15;
+
+const TWICE: usize = 16;
+
+const BAD: usize = 17;
+
+// A reading of a text, or else of a default: its state, whether it stands between quote marks, whether a name stands
+// behind a grave accent, how many bytes the name has so far, how many closing brackets are due.
+#[derive(Clone, Copy)]
+pub struct Reading {
+    pub state: usize,
+    pub text: bool,
+    pub marks: bool,
+    pub grave: bool,
+    pub count: usize,
+    pub depth: usize,
+}
+
+// A reading some bytes further on; or the brackets have no room.
+#[derive(Clone, Copy)]
+pub enum Fed {
+    On(Reading),
+    Short,
+}
 
 #[derive(Clone, Copy)]
 pub enum Verdict {
     Bad,
     Good,
     Short,
+}
+
+// The same reading in another state, without a name.
+fn at_state(r: Reading, state: usize) -> Fed
+    ensures { result ≡ Fed.On (record { state = state; text = r.text; marks = r.marks; grave = false; count = 0; depth = r.depth }) }
+{
+    Fed::On(Reading {
+        state,
+        text: r.text,
+        marks: r.marks,
+        grave: false,
+        count: 0,
+        depth: r.depth,
+    })
+}
+
+// In a name that has only the byte `b` so far.
+fn start_name(r: Reading, state: usize, grave: bool, b: u8, name: &mut [u8]) -> Fed
+    requires { (1025 ≤ length name.old) × (r.count ≤ 1025) }
+    ensures { (w : List ℕ) → r.depth ≤ 4 * length w → FedBy result r 1 (naming state grave (state_of r name.old w) b) w name.new w }
+{
+    name[0] = b;
+    Fed::On(Reading {
+        state,
+        text: r.text,
+        marks: r.marks,
+        grave,
+        count: 1,
+        depth: r.depth,
+    })
+}
+
+// The name with the byte `b`, unless it has `most` bytes.
+fn add_byte(r: Reading, most: usize, state: usize, b: u8, name: &mut [u8]) -> Fed
+    requires { (1025 ≤ length name.old) × (r.count ≤ 1025) × (most ≤ 1025) }
+    ensures { (w : List ℕ) → r.depth ≤ 4 * length w → FedBy result r 1 (longer most state (state_of r name.old w) b) w name.new w }
+{
+    if most <= r.count {
+        return at_state(r, BAD);
+    }
+    let n = r.count;
+    name[n] = b;
+    Fed::On(Reading {
+        state,
+        text: r.text,
+        marks: r.marks,
+        grave: r.grave,
+        count: n + 1,
+        depth: r.depth,
+    })
+}
+
+// With so many closing brackets due.
+fn with_depth(r: Reading, depth: usize) -> Fed
+    ensures { result ≡ Fed.On (record { state = 0; text = r.text; marks = r.marks; grave = false; count = 0; depth = depth }) }
+{
+    Fed::On(Reading {
+        state: START,
+        text: r.text,
+        marks: r.marks,
+        grave: false,
+        count: 0,
+        depth,
+    })
+}
+
+// A byte that is a token.
+fn read_single(r: Reading, b: u8, stack: &mut [u8]) -> Fed
+    requires { r.depth ≤ 4 * length stack.old }
+    ensures { (n : List ℕ) → 1025 ≤ length n → r.count ≤ 1025 → FedBy result r 1 (single (state_of r n stack.old) b) stack.old n stack.new }
+{
+    if r.text {
+        return at_state(r, START);
+    }
+    let p = step(stack, r.depth, b);
+    match p {
+        Stepped::On(d) => with_depth(r, d),
+        Stepped::Done => at_state(r, BAD),
+        Stepped::Torn => at_state(r, BAD),
+        Stepped::Short => Fed::Short,
+    }
+}
+
+// The first byte of a token, none of those that `read_fresh` takes.
+fn read_sign(r: Reading, b: u8, stack: &mut [u8]) -> Fed
+    requires { r.depth ≤ 4 * length stack.old }
+    ensures { (n : List ℕ) → 1025 ≤ length n → r.count ≤ 1025 → FedBy result r 1 (sign_of (state_of r n stack.old) b) stack.old n stack.new }
+{
+    if r.marks {
+        return read_single(r, b, stack);
+    }
+    if b == 47 {
+        return at_state(r, SLASH);
+    }
+    if b == 92 {
+        return at_state(r, SOLID);
+    }
+    read_single(r, b, stack)
+}
+
+// The first byte of a token.
+fn read_fresh(r: Reading, b: u8, name: &mut [u8], stack: &mut [u8]) -> Fed
+    requires { Sound r name.old stack.old }
+    ensures { FedBy result r 1 (fresh (state_of r name.old stack.old) b) stack.old name.new stack.new }
+{
+    if is_white(b) {
+        return at_state(r, START);
+    }
+    if is_start(b) {
+        return start_name(r, WORD, false, b, name);
+    }
+    if is_digit(b) | (b == 36) {
+        return at_state(r, RUN);
+    }
+    if b == 10 {
+        if r.marks {
+            return at_state(r, BAD);
+        }
+        return at_state(r, START);
+    }
+    if b == 34 {
+        return at_state(r, OPEN);
+    }
+    if b == 39 {
+        return at_state(r, TICK);
+    }
+    if b == 96 {
+        return at_state(r, ACCENT);
+    }
+    read_sign(r, b, stack)
+}
+
+// Whether no name, or a directive's, stands behind a grave accent.
+fn is_spoilt(r: Reading, name: &[u8]) -> bool
+    requires { r.count ≤ length name.now }
+    ensures { (w : List ℕ) → result ≡ spoilt (state_of r name.now w) }
+{
+    if !r.grave {
+        return false;
+    }
+    if r.count == 0 {
+        return true;
+    }
+    2 < directive_of(part_of(name, 0, r.count))
+}
+
+// The byte `b` begins a token, and a name is whole.
+fn read_closed(r: Reading, b: u8, name: &mut [u8], stack: &mut [u8]) -> Fed
+    requires { Sound r name.old stack.old }
+    ensures { FedBy result r 1 (closed (state_of r name.old stack.old) b) stack.old name.new stack.new }
+{
+    if is_spoilt(r, name) {
+        return at_state(r, BAD);
+    }
+    read_fresh(r, b, name, stack)
+}
+
+// In a name.
+fn read_word(r: Reading, b: u8, name: &mut [u8], stack: &mut [u8]) -> Fed
+    requires { Sound r name.old stack.old }
+    ensures { FedBy result r 1 (in_word (state_of r name.old stack.old) b) stack.old name.new stack.new }
+{
+    if is_run(36, b) {
+        return add_byte(r, 1024, WORD, b, name);
+    }
+    read_closed(r, b, name, stack)
 }
 
 // Past a `\`, or in an escaped name.
@@ -296,6 +515,20 @@ pub fn read_byte(r: Reading, b: u8, name: &mut [u8], stack: &mut [u8]) -> Fed
         return at_state(r, BAD);
     }
     read_outside(r, b, name, stack)
+}
+
+// The reading before the first byte.
+pub fn begin(text: bool) -> Reading
+    ensures { result ≡ record { state = 0; text = text; marks = false; grave = false; count = 0; depth = 0 } }
+{
+    Reading {
+        state: START,
+        text,
+        marks: false,
+        grave: false,
+        count: 0,
+        depth: 0,
+    }
 }
 
 // What the end of the text leaves bad in a state.

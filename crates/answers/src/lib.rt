@@ -3,7 +3,7 @@
 
 use classify::Classified;
 use delivery::deliver;
-use flattened::Flattened;
+use flatten::Flattened;
 use messages::{complain, say, say_refusal, say_refused};
 use options::PASS;
 use own::Own;
@@ -64,7 +64,7 @@ fn answer_lookup(rt: &HostRuntime, name: &[u8], bytes: &[u8], records: [Record; 
         complain(name, b"this macro is not defined");
         return REFUSED;
     }
-    match outputs::show_macro(&mut rt.stdout(), form, look_up::plain_name(name).len()) {
+    match outputs::show_macro(&mut rt.stdout(), form, macros::plain_name(name).len()) {
         Ok(()) => DONE,
         Err(error) => {
             inputs::fail_at(b"standard output", error);

@@ -2,7 +2,7 @@
 -- Assumes nothing.
 use Rattle.std.specs.Prelude.{ℕ, ◌≡◌, List}
 use Rattle.lex.specs.declared.Token.{Token}
-use Rattle.finding.specs.Buffers.{Holds}
+use Rattle.store.specs.Buffers.{Holds}
 use Rattle.blocks.specs.Stacks.{open_in, BlocksIn}
 use Rattle.blocks.specs.declared.Blocks.{Blocks}
 use Rattle.blocks.specs.declared.Changed.{Changed}

@@ -3,7 +3,7 @@
 
 ghost use Rattle.std.specs.Prelude.{◌≡◌, false, eqb};
 ghost use Rattle.names.specs.Names.{Else, Endif};
-ghost use Rattle.entries.specs.Entries.{Stored};
+ghost use Rattle.store.specs.Buffers.{Stored};
 ghost use Rattle.blocks.specs.Stacks.{BlocksIn};
 ghost use Rattle.turns.specs.States.{Here};
 ghost use Rattle.turns.specs.Acts.{conditional_act};

@@ -18,7 +18,7 @@ use Rattle.passing.proofs.Exact.{pass_words, pass_first, chain_exact}
 use Rattle.passing.proofs.Claims.{recursive}
 use Rattle.passing.proofs.Whole.{demand3}
 use Rattle.flatten.specs.Flattening.{Lent, rooms_of, Flattens}
-use Rattle.flattened.specs.declared.Flattened.{Flattened}
+use Rattle.flatten.specs.declared.Flattened.{Flattened}
 use Rattle.claims.specs.Demands.{PassRight, Returned, DemandThree}
 use Rattle.turns.proofs.Taken.{taken}
 

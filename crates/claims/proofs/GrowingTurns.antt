@@ -13,7 +13,7 @@ use Rattle.store.specs.Stores.{define, fits}
 use Rattle.settings.specs.declared.Settings.{Settings}
 use Rattle.writing.specs.Written.{Written, Room, Put, put_in}
 use Rattle.blocks.specs.Blocks.{Conditional}
-use Rattle.called.specs.Expansions.{Expansion}
+use Rattle.expand.specs.Expanding.{Expansion}
 use Rattle.turns.specs.States.{Context, Frame, State, Made, Turn, more, stop, finished, Here, behind, on_put, write, go_to, refuse_at, room_after}
 use Rattle.turns.specs.Acts.{Act, refuses, leaves, copies, skips, hides, branches, defines, undefines, includes, keeps, spells, expands, act_at}
 use Rattle.turns.specs.Usages.{after_usage, usage_end, expand_here, outer_of}

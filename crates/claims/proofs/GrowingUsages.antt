@@ -12,11 +12,9 @@ use Rattle.lex.proofs.Tests.{by_test, true_false}
 use Rattle.definition.specs.Definitions.{Macro}
 use Rattle.writing.specs.Written.{Written, placed, map_of, fresh_after, Room, Put, full, fitted, put_in}
 use Rattle.pending.specs.Pending.{Pending, view}
-use Rattle.pending.specs.Spelled.{Outer, writes}
 use Rattle.pending.proofs.Viewing.{by_usages}
 use Rattle.replace.specs.Replacing.{Got, refused, got, replace, deepest}
-use Rattle.called.specs.Expansions.{Expansion, Next, ends, writing, replacing, on_got, on_put, walk, onward}
-use Rattle.expand.specs.Expanding.{first, expand}
+use Rattle.expand.specs.Expanding.{Outer, Expansion, Next, ends, writing, replacing, on_got, on_put, walk, onward, writes, first, expand}
 use Rattle.turns.specs.States.{room_after}
 use Rattle.claims.specs.Growing.{Front, wants_room}
 

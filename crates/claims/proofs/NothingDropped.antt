@@ -15,7 +15,7 @@ use Rattle.handover.specs.Sizes.{HandOver, Rooms, is_sound}
 use Rattle.handover.proofs.Laws.{sound_facts}
 use Rattle.turns.specs.States.{Context, Frame, State, Here}
 use Rattle.turns.specs.Acts.{Act}
-use Rattle.turns.specs.Asking.{Taken, Ignored, Asks, to_copy, to_skip, to_hide, to_define, to_undefine, to_include, to_keep, to_spell, to_expand}
+use Rattle.turns.specs.Asking.{Taken, Ignored, Asks, to_refuse, to_leave, to_copy, to_skip, to_hide, to_branch, to_define, to_undefine, to_include, to_keep, to_spell, to_expand}
 use Rattle.turns.specs.Turns.{here_at}
 use Rattle.turns.specs.Runs.{Run, measure, run_from, context_of, start_of, Outcome, flattened}
 use Rattle.passing.proofs.Whole as run
@@ -31,7 +31,12 @@ use Rattle.claims.proofs.Telling.{told_through, all_taken, byte_within, ends_by,
 -- ---- acts
 
 asks_taken : {h : Here} {a : Act} → Asks h a → InTaken a → Taken h
+asks_taken (to_refuse _) h = elim h [ ]
+asks_taken (to_leave _ _) h = elim h [ ]
 asks_taken (to_copy r t g) token = t
+asks_taken (to_skip _ _) h = elim h [ ]
+asks_taken (to_hide _ _ _ _) h = elim h [ ]
+asks_taken (to_branch _ _ _) h = elim h [ ]
 asks_taken (to_define a t q i) definition = t
 asks_taken (to_undefine r t l i) removal = t
 asks_taken (to_include a t n i) inclusion = t
@@ -40,8 +45,18 @@ asks_taken (to_spell r t k) word = t
 asks_taken (to_expand a t) usage = t
 
 asks_ignored : {h : Here} {a : Act} → Asks h a → PassedOver a → Ignored h
+asks_ignored (to_refuse _) h = elim h [ ]
+asks_ignored (to_leave _ _) h = elim h [ ]
+asks_ignored (to_copy _ _ _) h = elim h [ ]
 asks_ignored (to_skip r t) skipped = t
 asks_ignored (to_hide a t d i) hidden = t
+asks_ignored (to_branch _ _ _) h = elim h [ ]
+asks_ignored (to_define _ _ _ _) h = elim h [ ]
+asks_ignored (to_undefine _ _ _ _) h = elim h [ ]
+asks_ignored (to_include _ _ _ _) h = elim h [ ]
+asks_ignored (to_keep d _ _ _ _ _) h = elim h [ ]
+asks_ignored (to_spell _ _ _) h = elim h [ ]
+asks_ignored (to_expand _ _) h = elim h [ ]
 
 -- what is written is what is taken, from where the token stands
 written_taken : (x : Context) (s : State) (f : Frame) (fs : List Frame) {a : Act} → AsWritten a

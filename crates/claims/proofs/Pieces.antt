@@ -18,12 +18,11 @@ use Rattle.store.specs.Stores.{define, fits}
 use Rattle.settings.specs.declared.Settings.{Settings}
 use Rattle.writing.specs.Written.{Written}
 use Rattle.places.specs.Places.{decimal, place_of, quoted}
-use Rattle.cursor.specs.Cursors.{opening, cursor_past, cursor_behind}
-use Rattle.pending.specs.Spelled.{Outer}
-use Rattle.expand.specs.Expanding.{expand}
+use Rattle.copying.specs.Cursors.{opening, cursor_past, cursor_behind}
+use Rattle.expand.specs.Expanding.{Outer, expand}
 use Rattle.handover.specs.Entries.{name_of as entryNamed}
 use Rattle.handover.specs.Sizes.{HandOver, Rooms, is_sound}
-use Rattle.starts.proofs.Each.{Each, each_none, each_with}
+use Rattle.macros.proofs.Each.{Each, each_none, each_with}
 use Rattle.turns.specs.States.{Context, Frame, State, Turn, more, stop, finished, Here, frames_at, behind, write}
 use Rattle.turns.specs.States as states
 use Rattle.turns.specs.Acts.{Act}

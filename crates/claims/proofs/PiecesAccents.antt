@@ -15,7 +15,7 @@ use Rattle.lex.proofs.Progress.{token-at}
 use Rattle.names.specs.Names.{FileWord, directive_of}
 use Rattle.places.specs.Places.{decimal, line_at}
 use Rattle.pending.specs.Pending.{Pending, kind_view, is_call, view}
-use Rattle.pending.specs.Spelled.{Outer, word_writes, writes}
+use Rattle.expand.specs.Expanding.{Outer, word_writes, writes}
 use Rattle.turns.specs.States.{Context}
 use Rattle.turns.specs.Files.{file_of, token_in, Read}
 use Rattle.claims.specs.Pieces.{outer_at, Source, Kept, Word, file_word, line_word, Piece, copied, kept, newline, word, expanded, Worded, as_file, as_line}

@@ -9,12 +9,10 @@ use Rattle.definition.specs.Definitions.{Macro}
 use Rattle.writing.specs.Written.{Written, placed, text_of, Room, Put, full, fitted, put_in}
 use Rattle.writing.proofs.Laws.{text_placed, text_append}
 use Rattle.pending.specs.Pending.{Pending, file_from, view}
-use Rattle.pending.specs.Spelled.{Outer, writes}
 use Rattle.pending.proofs.Viewing.{by_usage}
 use Rattle.replace.specs.Replacing.{Got, refused, got, replace}
-use Rattle.called.specs.Expansions.{Expansion, Next, on_got, on_put, walk, onward}
-use Rattle.expand.specs.Expanding.{first, expand}
-use Rattle.starts.proofs.Each.{Each, each_none, each_append}
+use Rattle.expand.specs.Expanding.{Outer, writes, Expansion, Next, on_got, on_put, walk, onward, first, expand}
+use Rattle.macros.proofs.Each.{Each, each_none, each_append}
 use Rattle.turns.specs.States.{Context}
 use Rattle.turns.specs.Files.{file_of, Accented}
 use Rattle.claims.specs.Pieces.{outer_at, Source, Piece, expanded, Pieces, none, then}

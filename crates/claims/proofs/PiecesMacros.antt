@@ -3,10 +3,9 @@
 use Prim.Native.Nat.{ℕ}
 use mathlib.Core.List.{List, []}
 use Rattle.definition.specs.Definitions.{Macro, macro}
-use Rattle.finding.specs.Stores.{no_macro, macro_at}
-use Rattle.store.specs.Stores.{define, undefine}
-use Rattle.starts.specs.Starting.{started_from}
-use Rattle.starts.proofs.Each.{Each, each_get, each_define, each_undefine, each_started}
+use Rattle.store.specs.Stores.{no_macro, macro_at, define, undefine}
+use Rattle.macros.specs.Starting.{started_from}
+use Rattle.macros.proofs.Each.{Each, each_get, each_define, each_undefine, each_started}
 use Rattle.turns.specs.States.{Context}
 use Rattle.claims.specs.Pieces.{Defined}
 

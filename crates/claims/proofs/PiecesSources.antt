@@ -17,20 +17,19 @@ use Rattle.lex.specs.declared.Token.{Token}
 use Rattle.lex.proofs.Tests.{by_test}
 use Rattle.lex.proofs.Listing.{by_tokens, file_mode, tokens_out}
 use Rattle.definition.specs.Definitions.{Parameter, parameter, Macro, macro}
-use Rattle.finding.specs.Stores.{macro_at, find}
-use Rattle.finding.specs.declared.Found.{Found}
-use Rattle.finding.specs.declared.Found.TheVariants.{At, Missing}
+use Rattle.store.specs.Stores.{macro_at, find}
+use Rattle.store.specs.declared.Found.{Found}
+use Rattle.store.specs.declared.Found.TheVariants.{At, Missing}
 use Rattle.sets.specs.Sets.{elem, insert_asc}
 use Rattle.pending.specs.Pending.{Pending, file_token, file_tokens, file_from, text_token, text_tokens, is_spacing, View, blanks, calls, names, opens, closes, commas, bars, plain, view, is_barred}
 use Rattle.pending.proofs.Viewing.{free_bar, by_name}
 use Rattle.arguments.specs.Arguments.{Move, keep, close, fail, move_of, Args, args, push, split, after, collect, seek_by, seek}
 use Rattle.arguments.specs.Arguments as arguments
 use Rattle.arguments.proofs.Moves.{stays_free}
-use Rattle.tidying.specs.Tidying.{before_newline, is_backslash, cleaned_all, drop_left, keep_last, drop_right, tidy, tidy_all}
-use Rattle.values.specs.Values.{fallback, or_else}
-use Rattle.replace.specs.Replacing.{value, instead, image_of, in_place, text_with, Got, refused, got, enough, Listed, listed, accepted, list_for, with_list, replace_by, replace_at, replace}
+use Rattle.replace.specs.Tidying.{before_newline, is_backslash, cleaned_all, drop_left, keep_last, drop_right, tidy, tidy_all}
+use Rattle.replace.specs.Replacing.{fallback, or_else, value, instead, image_of, in_place, text_with, Got, refused, got, enough, Listed, listed, accepted, list_for, with_list, replace_by, replace_at, replace}
 use Rattle.replace.specs.Replacing as replacing
-use Rattle.starts.proofs.Each.{Each, each_none, each_with, each_append}
+use Rattle.macros.proofs.Each.{Each, each_none, each_with, each_append}
 use Rattle.turns.specs.States.{Context}
 use Rattle.turns.specs.Files.{file_of, token_in}
 use Rattle.claims.specs.Pieces.{Defined, Source, of_list, of_text, of_default, tidied}

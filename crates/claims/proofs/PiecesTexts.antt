@@ -23,14 +23,13 @@ use Rattle.storing.specs.Stored.{joined_from}
 use Rattle.afresh.specs.Judging.{is_barred as isBarredToken, barred_grave}
 use Rattle.afresh.specs.Unfit.{is_accented, held_by, unless, is_stray, is_unfit, unfit_in, unfit_text, unfit_held, unfit_default}
 use Rattle.definition.specs.Definitions.{Parameter, parameter, macro}
-use Rattle.checks.specs.Checks.{is_trimmed}
-use Rattle.genuine.specs.Fitness.{fit_name, fit_stored, fit_formal, is_named, fit_parameter, fit_parameters, fit_macro}
+use Rattle.genuine.specs.Fitness.{fit_name, is_trimmed, fit_stored, fit_formal, is_named, fit_parameter, fit_parameters, fit_macro}
 use Rattle.genuine.proofs.Tests.{or_left, or_right, and_second, passed}
 use Rattle.genuine.proofs.Fitting.{good_fit}
 use Rattle.pending.specs.Pending.{Pending, file_token, text_token, is_comment, kind_view, view, is_barred}
 use Rattle.pending.proofs.Viewing.{free_bar}
-use Rattle.tidying.specs.Tidying.{cleaned}
-use Rattle.starts.proofs.Each.{Each, each_none, each_with}
+use Rattle.replace.specs.Tidying.{cleaned}
+use Rattle.macros.proofs.Each.{Each, each_none, each_with}
 use Rattle.turns.specs.States.{Context}
 use Rattle.turns.specs.Files.{file_of, token_in}
 use Rattle.claims.specs.Pieces.{Defined, Source, of_list, of_text, of_default, tidied}

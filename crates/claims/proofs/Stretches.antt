@@ -17,7 +17,7 @@ use Rattle.definition.specs.Definitions.{Macro}
 use Rattle.writing.specs.Written.{Written, text_of}
 use Rattle.writing.proofs.Laws.{text_placed}
 use Rattle.blocks.specs.Blocks.{Conditional}
-use Rattle.cursor.specs.Cursors.{opening, cursor_past, cursor_behind}
+use Rattle.copying.specs.Cursors.{opening, cursor_past, cursor_behind}
 use Rattle.turns.specs.States.{Context, Frame, State, Made, Turn, more, stop, finished, Here, frames_at, go_to, write}
 use Rattle.turns.specs.States as states
 use Rattle.turns.specs.Acts.{Act, leaves, act_at}

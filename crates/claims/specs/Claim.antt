@@ -10,7 +10,7 @@ use Rattle.handover.specs.Sizes.{HandOver, Rooms, is_sound}
 use Rattle.turns.specs.Runs.{context_of, start_of, flattened}
 use Rattle.turns.specs.Mapping.{InFile, All}
 use Rattle.turns.specs.Examples.{says, flat, Variant, text_in, four_deep, one_condition}
-use Rattle.listing.specs.Words.{Words}
+use Rattle.classify.specs.Words.{Words}
 use Rattle.classify.specs.Answer.{outcome_of}
 use Rattle.claims.specs.Growing.{Larger, Grows}
 use Rattle.claims.specs.Refused.{PlacedIn, NumberedIn}

@@ -13,7 +13,7 @@ use Rattle.passing.specs.Chains.{chain}
 use Rattle.passing.specs.Meaning.{Demanded, First, Longest}
 use Rattle.passing.specs.Meeting.{Meets, expansion_at, Tame, Soft, AllTame, Demand3}
 use Rattle.flatten.specs.Flattening.{Lent, rooms_of, Flattens}
-use Rattle.flattened.specs.declared.Flattened.{Flattened}
+use Rattle.flatten.specs.declared.Flattened.{Flattened}
 
 -- "It passes exactly when each usage written in its texts names a macro of the set and gives a list which that macro accepts, and
 -- no macro reaches itself"; else the first macro at fault. The chain of a set that passes is its longest

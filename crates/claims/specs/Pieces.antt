@@ -13,8 +13,8 @@ use Rattle.directive.specs.Forms.{form_at}
 use Rattle.definition.specs.Definitions.{Parameter, parameter, Macro, macro, good, definition_at}
 use Rattle.places.specs.Places.{quoted, decimal, line_at, place_of}
 use Rattle.pending.specs.Pending.{Pending, file_token, text_token, is_call, is_barred, view}
-use Rattle.pending.specs.Spelled.{Outer, writes}
-use Rattle.tidying.specs.Tidying.{cleaned}
+use Rattle.replace.specs.Tidying.{cleaned}
+use Rattle.expand.specs.Expanding.{Outer, writes}
 use Rattle.handover.specs.Entries.{name_of as entryNamed}
 use Rattle.turns.specs.States.{Context}
 use Rattle.turns.specs.Files.{file_of, token_in, Read, Accented}

@@ -3,8 +3,8 @@
 use Rattle.std.specs.Prelude.{ℕ, ◌<◌, ◌≤◌, cond, List, [], ◌∷◌, ◌++◌, ◌≡◌, length}
 use Rattle.text.specs.Bytes.{part}
 use Rattle.writing.specs.Written.{text_of}
-use Rattle.cursor.specs.declared.Cursor.{Cursor}
-use Rattle.cursor.specs.Cursors.{opening}
+use Rattle.copying.specs.declared.Cursor.{Cursor}
+use Rattle.copying.specs.Cursors.{opening}
 use Rattle.turns.specs.States.{Context, Frame, State, Made, more, Here}
 use Rattle.turns.specs.Acts.{Act, refuses, leaves, copies, skips, hides, branches, defines, undefines, includes, keeps, spells, expands, act_at}
 use Rattle.turns.specs.Asking.{Asks}

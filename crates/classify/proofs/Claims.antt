@@ -7,19 +7,17 @@ use mathlib.Core.Path.{◌≡◌, refl}
 use Rattle.text.specs.Bytes.{bytes, same}
 use Rattle.lex.proofs.Computing.{computing}
 use Rattle.keywords.specs.Keywords.{keywords, reserved_in, is_reserved}
-use Rattle.names.specs.Names.{number_in, macro_directives, state_directives, other_directives, other_of, state_of, directive_of}
-use Rattle.form_words.specs.Tables.{version_of}
-use Rattle.line_words.specs.Words.{word_at}
+use Rattle.names.specs.Names.{number_in, macro_directives, state_directives, other_directives, other_of, state_of, directive_of, version_of}
+use Rattle.directive.specs.Words.{word_at}
 use Rattle.directive.specs.Forms.{entry_form, read_at, value_of, form_at}
 use Rattle.conditions.proofs.Computing.{conditioning}
 use Rattle.storing.specs.Stored.{piece, pieces, trim_left, trim_right, stored}
 use Rattle.afresh.specs.Judging.{bad_in, bad_text}
-use Rattle.formals.specs.Extents.{extent_in, extent_at, bars_of}
-use Rattle.formals.specs.Heads.{gap_in, gap_end, open_at, head_at}
+use Rattle.definition.specs.Extents.{extent_in, extent_at, bars_of}
+use Rattle.definition.specs.Heads.{gap_in, gap_end, open_at, head_at}
 use Rattle.definition.specs.Definitions.{parameters_of, bad_formals, definition_at}
 use Rattle.places.specs.Places.{newlines, line_at}
-use Rattle.passed_over.specs.Directives.{past_directive, past_grave}
-use Rattle.listing.specs.Words.{Words, ends, words_from, words_of}
+use Rattle.classify.specs.Words.{Words, ends, past_directive, past_grave, words_from, words_of}
 use Rattle.classify.specs.Answer.{outcome_of, refused_line, answer_of}
 
 -- opens every definition that the examples compute

@@ -1,14 +1,24 @@
 // Classify (document 01, "Reserved words"): the plain names of a text outside directives, reserved or not, for a C host.
 #![tactic(auto)]
 
-ghost use Rattle.std.specs.Prelude.{◌≡◌, ◌≤◌, length};
+ghost use Rattle.std.specs.Prelude.{◌≡◌, [], ◌∷◌, ◌≤◌, ◌-◌, ◌<◌, length};
+ghost use Rattle.lex.specs.Tokens.{name_of};
+ghost use Rattle.definition.specs.Definitions.{definition_at};
+ghost use Rattle.definition.specs.Answers.{judged_of};
 ghost use Rattle.keywords.specs.Tables.{Tables};
-ghost use Rattle.listing.specs.Words.{words_of};
-ghost use Rattle.classify.specs.Answer.{refused_line, outcome_of, Answered};
+ghost use Rattle.conditions.specs.Grammar.{is_defined, condition_at};
+ghost use Rattle.classify.specs.Words.{by_form, by_definition, by_condition, takes_condition, past_directive, past_grave, word_of, bit, words_of};
+ghost use Rattle.classify.specs.Answer.{refused_line, outcome_of, Listed, Answered};
 
-use keywords::{BYTES, FIRSTS, STARTS};
-use listing::list_words;
+use conditions::{Condition, condition_at};
+use definition::{Judged, judge_definition};
+use directive::{Form, form_at};
+use keywords::{BYTES, FIRSTS, STARTS, is_reserved};
+use lex::{GRAVE, NAME, Token, in_file, token_at};
+use names::{DEFINE, ELSIF, IFDEF, IFNDEF, directive_of};
 use places::line_at;
+use settings::keywords_after;
+use text::part_of;
 
 // The answer: the refusal's number, or 0; its line from 1 and its byte from 0, both 0 for refusal 1 and where nothing
 // is refused; the words written.
@@ -19,6 +29,228 @@ pub struct Classified {
     pub line: usize,
     pub byte: usize,
     pub words: usize,
+}
+
+// Where to read on, and in which keyword set; or a refusal and its place.
+#[derive(Clone, Copy)]
+pub enum Past {
+    On(usize, usize),
+    Stop(usize, usize),
+}
+
+// How a text was read: the refusal, or 0, with its place, and the words written.
+#[derive(Clone, Copy)]
+pub struct Ended {
+    pub number: usize,
+    pub place: usize,
+    pub words: usize,
+}
+
+// Past a directive by its form, where only its word, which ends at `at`, is skipped if it is ill_formed.
+fn past_form(f: Form, start: usize, set: usize, at: usize) -> Past
+    ensures { result ≡ by_form start set at f }
+{
+    match f {
+        Form::Formed(v, e) => Past::On(e, keywords_after(v, start, set)),
+        Form::Unformed => Past::On(at, set),
+        Form::Barred(n, p) => Past::Stop(n, p),
+    }
+}
+
+// The definition whose word ends at `at`, judged with bytes for the brackets of any text.
+fn judge_deep(s: &[u8], at: usize, name: &mut [u8]) -> Judged
+    requires { (length s.now ≤ 16777215) × (1025 ≤ length name.old) }
+    ensures { result ≡ judged_of (definition_at s.now at) }
+{
+    let mut stack = [0u8; 4194304];
+    judge_definition(s, at, name, &mut stack)
+}
+
+// With the lent bytes for brackets first, then with more. `tries` is 2 at first. It calls itself, and not as the last thing it
+// does, so that the large array stays out of its own frame and its callers': LLVM moves none into a function that does.
+fn judge(s: &[u8], at: usize, name: &mut [u8], stack: &mut [u8], tries: usize) -> Judged
+    requires { (length s.now ≤ 16777215) × (1025 ≤ length name.old) }
+    ensures { result ≡ judged_of (definition_at s.now at) }
+{
+    if tries == 0 {
+        return judge_deep(s, at, name);
+    }
+    if tries == 1 {
+        let r = judge_definition(s, at, name, stack);
+        let Judged::Short = r else {
+            return r;
+        };
+        return judge(s, at, name, stack, 0);
+    }
+    let r = judge(s, at, name, stack, 1);
+    let Judged::Short = r else {
+        return r;
+    };
+    judge(s, at, name, stack, 0)
+}
+
+// Past the definition whose word ends at `at`.
+fn past_definition(s: &[u8], at: usize, set: usize, name: &mut [u8], stack: &mut [u8]) -> Past
+    requires { (length s.now ≤ 16777215) × (1025 ≤ length name.old) }
+    ensures { result ≡ by_definition set at (definition_at s.now at) }
+{
+    let r = judge(s, at, name, stack, 2);
+    match r {
+        Judged::Barred(n, p) => Past::Stop(n, p),
+        Judged::Bad(_) => Past::On(at, set),
+        Judged::Good(e) => Past::On(e, set),
+        Judged::Short => Past::On(at, set),
+    }
+}
+
+// Past a conditional word, which ends at `at`, by its condition.
+fn past_condition(c: Condition, at: usize, set: usize) -> Past
+    ensures { result ≡ by_condition set at c }
+{
+    match c {
+        Condition::Truth(_, e) => Past::On(e, set),
+        Condition::Refused(n, p) => {
+            if n == 7 {
+                return Past::On(at, set);
+            }
+            Past::Stop(n, p)
+        }
+    }
+}
+
+// The condition behind the conditional word `t`, where nothing is defined.
+fn condition_form(s: &[u8], t: Token) -> Condition
+    ensures { result ≡ condition_at s.now (is_defined []) t }
+{
+    let bytes = [0u8; 1];
+    let records = [[0u32; 4]; 1];
+    condition_at(s, t, &bytes, &records, 0)
+}
+
+fn takes_condition(d: usize) -> bool
+    ensures { result ≡ takes_condition d }
+{
+    (d == IFDEF) | ((d == IFNDEF) | (d == ELSIF))
+}
+
+// Past the directive `d`, whose word is `t`.
+fn past_directive(
+    d: usize,
+    s: &[u8],
+    t: Token,
+    start: usize,
+    set: usize,
+    name: &mut [u8],
+    stack: &mut [u8],
+) -> Past
+    requires { (length s.now ≤ 16777215) × (1025 ≤ length name.old) }
+    ensures { result ≡ past_directive d start set s.now t }
+{
+    if d == DEFINE {
+        return past_definition(s, t.end, set, name, stack);
+    }
+    if takes_condition(d) {
+        return past_condition(condition_form(s, t), t.end, set);
+    }
+    past_form(form_at(d, s, t.end), start, set, t.end)
+}
+
+// Past the grave accent name `t`.
+fn past_grave(
+    s: &[u8],
+    t: Token,
+    start: usize,
+    set: usize,
+    name: &mut [u8],
+    stack: &mut [u8],
+) -> Past
+    requires { (length s.now ≤ 16777215) × (1025 ≤ length name.old) }
+    ensures { result ≡ past_grave start set s.now t }
+{
+    let d = directive_of(part_of(s, t.from, t.end));
+    past_directive(d, s, t, start, set, name, stack)
+}
+
+fn bit_of(b: bool) -> u32
+    ensures { result ≡ bit b }
+{
+    if b { 1 } else { 0 }
+}
+
+// The name `t` as a word, by the three keyword tables.
+fn word_of(
+    s: &[u8],
+    t: Token,
+    set: usize,
+    bytes: &[u8],
+    starts: &[usize],
+    firsts: &[usize],
+) -> [u32; 3]
+    requires { (t.at ≤ t.end) × (t.end ≤ 16777215) × Tables bytes.now starts.now firsts.now }
+    ensures { result ≡ word_of s.now set t }
+{
+    let reserved = is_reserved(bytes, starts, firsts, part_of(s, t.from, t.end), set);
+    [t.at as u32, (t.end - t.at) as u32, bit_of(reserved)]
+}
+
+fn make_ended(number: usize, place: usize, words: usize) -> Ended
+    ensures { result ≡ record { number = number; place = place; words = words } }
+{
+    Ended {
+        number,
+        place,
+        words,
+    }
+}
+
+// Lists the words of a text in the keyword set `start`, by the three keyword tables, with bytes for the names and brackets of definitions.
+fn list_words(
+    s: &[u8],
+    start: usize,
+    words: &mut [[u32; 3]],
+    bytes: &[u8],
+    starts: &[usize],
+    firsts: &[usize],
+    name: &mut [u8],
+    stack: &mut [u8],
+) -> Ended
+    requires { (length s.now ≤ 16777215) × (1025 ≤ length name.old) × Tables bytes.now starts.now firsts.now }
+    ensures { Listed start s.now words.old words.new result }
+{
+    let mut i = 0;
+    let mut set = start;
+    let mut n = 0;
+    while i < s.len() {
+        let t = token_at(s, i, in_file());
+        if t.bar != 0 {
+            return make_ended(t.bar, i, n);
+        }
+        if t.kind == NAME {
+            if words.len() <= n {
+                return make_ended(21, i, n);
+            }
+            words[n] = word_of(s, t, set, bytes, starts, firsts);
+            n += 1;
+            i = t.end;
+            continue;
+        }
+        if t.kind != GRAVE {
+            i = t.end;
+            continue;
+        }
+        let p = past_grave(s, t, start, set, name, stack);
+        match p {
+            Past::On(e, v) => {
+                i = e;
+                set = v;
+                continue;
+            }
+            Past::Stop(k, q) => {
+                return make_ended(k, q, n);
+            }
+        }
+    }
+    make_ended(0, 0, n)
 }
 
 // The line of a refusal's place.

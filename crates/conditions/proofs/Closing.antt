@@ -8,7 +8,7 @@ use native.Mathlib.Omega.{arith}
 use lib.ListN.{get_or}
 use Rattle.text.specs.Bytes.{bytes}
 use Rattle.lex.specs.Tokens.{in_file, token_at}
-use Rattle.line_words.specs.Words.{word_start}
+use Rattle.directive.specs.Words.{word_start}
 use Rattle.conditions.specs.declared.Condition.{Condition}
 use Rattle.conditions.specs.declared.Condition.TheVariants.{Truth, Refused}
 use Rattle.conditions.specs.Grammar.{unfit, name_at, operand, arrows_by, closed, parentheses_at}

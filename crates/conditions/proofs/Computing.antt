@@ -3,7 +3,7 @@
 use Prim.Native.Nat.{ℕ}
 use Rattle.text.specs.Bytes.{begins, holds}
 use Rattle.lex.proofs.Computing.{computing}
-use Rattle.line_words.specs.Words.{start_in, word_start}
+use Rattle.directive.specs.Words.{start_in, word_start}
 use Rattle.conditions.specs.Grammar.{and_at, or_at, arrow_at, chain, negated, name_at, parentheses_at, condition_at}
 
 unfoldable pub conditioning : ℕ

@@ -8,7 +8,7 @@ use lib.ListN.{length}
 use Rattle.text.specs.Bytes.{bytes}
 use Rattle.lex.specs.declared.Token.{Token}
 use Rattle.lex.specs.Tokens.{in_file, Name, Escaped, is, token_at}
-use Rattle.line_words.specs.Words.{word_start}
+use Rattle.directive.specs.Words.{word_start}
 use Rattle.conditions.specs.declared.Condition.{Condition}
 use Rattle.conditions.specs.declared.Condition.TheVariants.{Truth, Refused}
 use Rattle.conditions.specs.Forms.{SameForm, same_end, same_refusal}

@@ -9,9 +9,8 @@ use lib.ListN.{length, get_or}
 use Rattle.text.specs.Bytes.{bytes}
 use Rattle.places.proofs.Levels.{Level}
 use Rattle.definition.specs.Definitions.{Macro}
-use Rattle.finding.specs.Buffers.{Holds}
-use Rattle.entries.specs.Entries.{Stored}
-use Rattle.line_words.specs.Words.{word_start}
+use Rattle.store.specs.Buffers.{Holds, Stored}
+use Rattle.directive.specs.Words.{word_start}
 use Rattle.conditions.specs.declared.Condition.{Condition}
 use Rattle.conditions.specs.declared.Condition.TheVariants.{Truth, Refused}
 use Rattle.conditions.specs.Grammar.{is_defined, on_truth, mapped, Operator, none_here, operator, spaced, joined, chain, negated}

@@ -15,10 +15,10 @@ use Rattle.lex.specs.Tokens.{in_file, Newline, BlockComment, String, Name, Escap
 use Rattle.lex.proofs.Tests.{by_test, and_left, and_right}
 use Rattle.lex.proofs.Progress.{token_past, token-at, token_ends}
 use Rattle.lex.proofs.Barring.{token_bars}
-use Rattle.line_words.proofs.Wording.{start_out, by_start}
-use Rattle.formals.proofs.Formals.{kind_inside}
+use Rattle.directive.proofs.Wording.{start_out, by_start}
+use Rattle.definition.proofs.Formals.{kind_inside}
 use Rattle.places.proofs.Levels.{Level, level_here, level_on, other_kind, token_level, word_level}
-use Rattle.line_words.specs.Words.{word_start}
+use Rattle.directive.specs.Words.{word_start}
 use Rattle.conditions.specs.declared.Condition.{Condition}
 use Rattle.conditions.specs.declared.Condition.TheVariants.{Truth, Refused}
 use Rattle.conditions.specs.Grammar.{on_truth, mapped, unfit, Operator, none_here, operator, implies, equivalent, stands, and_at, or_at, arrow_at, spaced, joined, chain, negated, name_at, operand, nots_by, ands_by, ors_by, arrows_by, closed, parentheses_at, condition_at}

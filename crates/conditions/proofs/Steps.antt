@@ -8,7 +8,7 @@ use native.Mathlib.Omega.{arith}
 use lib.ListN.{length}
 use Rattle.text.specs.Bytes.{bytes, holds}
 use Rattle.places.proofs.Levels.{word_level}
-use Rattle.line_words.specs.Words.{word_start}
+use Rattle.directive.specs.Words.{word_start}
 use Rattle.conditions.specs.declared.Condition.{Condition}
 use Rattle.conditions.specs.declared.Condition.TheVariants.{Truth, Refused}
 use Rattle.conditions.specs.Grammar.{on_truth, mapped, Operator, none_here, operator, stands, spaced, joined, chain, negated}

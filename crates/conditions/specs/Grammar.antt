@@ -5,11 +5,11 @@ use Rattle.std.specs.Prelude.{ℕ, zero, suc, ◌+◌, Bool, true, false, cond, 
 use Rattle.text.specs.Bytes.{bytes, begins}
 use Rattle.lex.specs.Tokens.{in_file, Name, Escaped, is, name_of, token_at}
 use Rattle.lex.specs.declared.Token.{Token}
-use Rattle.line_words.specs.Words.{word_start}
+use Rattle.directive.specs.Words.{word_start}
 use Rattle.definition.specs.Definitions.{Macro}
-use Rattle.finding.specs.Stores.{find}
-use Rattle.finding.specs.declared.Found.{Found}
-use Rattle.finding.specs.declared.Found.TheVariants.{At, Missing}
+use Rattle.store.specs.Stores.{find}
+use Rattle.store.specs.declared.Found.{Found}
+use Rattle.store.specs.declared.Found.TheVariants.{At, Missing}
 use Rattle.conditions.specs.declared.Condition.{Condition}
 use Rattle.conditions.specs.declared.Condition.TheVariants.{Truth, Refused}
 

@@ -3,16 +3,15 @@
 
 ghost use Rattle.std.specs.Prelude.{◌≡◌, Bool, List, [], ◌∷◌, ◌<◌, ◌≤◌, length, drop};
 ghost use Rattle.text.specs.Bytes.{begins};
-ghost use Rattle.line_words.specs.Words.{word_start};
+ghost use Rattle.directive.specs.Words.{word_start};
 ghost use Rattle.definition.specs.Definitions.{Macro};
-ghost use Rattle.finding.specs.Buffers.{Holds};
-ghost use Rattle.entries.specs.Entries.{Stored};
+ghost use Rattle.store.specs.Buffers.{Holds, Stored};
 ghost use Rattle.conditions.specs.Grammar.{is_defined, mapped, unfit, spaced, name_at, nots_by, ands_by, ors_by, arrows_by, parentheses_at, condition_at};
 ghost use Rattle.conditions.specs.Reading.{differs, Reads};
 
-use finding::{Found, find};
+use directive::word_start;
 use lex::{ESCAPED, NAME, Token, in_file, token_at};
-use line_words::word_start;
+use store::{Found, find};
 use text::{part_of, peek};
 
 // A condition or a part of it: its value, and where it ends; or refused, with the place.

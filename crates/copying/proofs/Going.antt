@@ -25,9 +25,9 @@ use Rattle.writing.specs.declared.Spot.{Spot}
 use Rattle.writing.specs.declared.Wrote.{Wrote}
 use Rattle.writing.specs.declared.Wrote.TheVariants as wrote
 use Rattle.writing.proofs.Laws.{puts_none, puts_append, puts_text, puts_map}
-use Rattle.cursor.specs.declared.Cursor.{Cursor}
+use Rattle.copying.specs.declared.Cursor.{Cursor}
 use Rattle.copying.specs.declared.Copied.TheVariants as copied
-use Rattle.cursor.specs.Cursors.{stops_at, is_gap_kind, is_single, may_wrap, lines_of, cursor_past}
+use Rattle.copying.specs.Cursors.{stops_at, is_gap_kind, is_single, may_wrap, lines_of, cursor_past}
 use Rattle.copying.specs.Copying.{token_on, copy_of, Copies, Skips, Reads, Copyable, CopiesTo, CopiedBy, SkipsTo}
 use Rattle.copying.proofs.Singles.{by_single, white_line, part_one}
 

@@ -14,7 +14,7 @@ use Rattle.lex.specs.Classes.{is_white, is_start, is_digit}
 use Rattle.lex.specs.Tokens.{White, Newline, Byte, in_file, plain, sign_token, token_at}
 use Rattle.lex.specs.declared.Token.{Token}
 use Rattle.lex.proofs.Tests.{and_left, and_right, true_false, read_within}
-use Rattle.cursor.specs.Cursors.{is_mark, is_single}
+use Rattle.copying.specs.Cursors.{is_mark, is_single}
 
 -- ---- tests on all bytes below a bound
 

@@ -7,11 +7,11 @@ use Rattle.lex.specs.declared.Token.{Token}
 use Rattle.writing.specs.Written.{Written, placed, Room, full, fitted, put_in}
 use Rattle.writing.specs.Buffers.{room_of, Puts}
 use Rattle.writing.specs.declared.Spot.{Spot}
-use Rattle.cursor.specs.declared.Cursor.{Cursor}
+use Rattle.copying.specs.declared.Cursor.{Cursor}
 use Rattle.copying.specs.declared.Skipped.{Skipped}
 use Rattle.copying.specs.declared.Copied.{Copied}
 use Rattle.copying.specs.declared.Copied.TheVariants as copied
-use Rattle.cursor.specs.Cursors.{stops_at, cursor_past}
+use Rattle.copying.specs.Cursors.{stops_at, cursor_past}
 
 -- the token at a cursor, and what it writes as it stands
 abbrev pub token_on : List ℕ → Cursor → Token

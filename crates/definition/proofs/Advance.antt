@@ -15,11 +15,11 @@ use Rattle.lex.proofs.Tests.{by_test}
 use Rattle.lex.proofs.Progress.{token_ends}
 use Rattle.lex.proofs.Listing.{by_tokens}
 use Rattle.storing.specs.Stored.{stored}
-use Rattle.formals.specs.declared.Head.{Head}
-use Rattle.formals.specs.Extents.{mark_of, extent_in, extent_at, bars_of}
-use Rattle.formals.specs.Heads.{head_at}
-use Rattle.formals.specs.Lists.{Formals, ill, whole, shape_by}
-use Rattle.definition.specs.Definitions.{Macro, Definition, barred, bad, good, is_bad, text_at, judged_by, definition_at}
+use Rattle.definition.specs.declared.Head.{Head}
+use Rattle.definition.specs.Extents.{mark_of, extent_in, extent_at, bars_of}
+use Rattle.definition.specs.Heads.{head_at}
+use Rattle.definition.specs.Lists.{Formals, ill, whole}
+use Rattle.definition.specs.Definitions.{Macro, Definition, barred, bad, good, is_bad, shape_by, text_at, judged_by, definition_at}
 
 -- the tokens of a definition end no earlier than what stands before them
 extent_past : (s : List ℕ) (i : ℕ) → i ≤ (extent_at s i).end

@@ -8,9 +8,9 @@ use Rattle.brackets.specs.Steps.{step_of}
 use Rattle.storing.specs.Stored.{joined_from, piece, pieces, trim_left, trim_right, stored}
 use Rattle.storing.specs.Graves.{grave_in, has_grave}
 use Rattle.afresh.specs.Judging.{bad_in, bad_text, barred_in, bad_default}
-use Rattle.formals.specs.Extents.{extent_in, extent_at, bars_of}
-use Rattle.formals.specs.Heads.{gap_in, gap_end, open_at, head_at}
-use Rattle.formals.specs.Lists.{step_at, default_in, default_end, formal_at, formals_from, formals_at}
+use Rattle.definition.specs.Extents.{extent_in, extent_at, bars_of}
+use Rattle.definition.specs.Heads.{gap_in, gap_end, open_at, head_at}
+use Rattle.definition.specs.Lists.{step_at, default_in, default_end, formal_at, formals_from, formals_at}
 use Rattle.definition.specs.Definitions.{parameters_of, bad_formal, named, bad_formals, definition_at}
 
 unfoldable pub defining : ℕ

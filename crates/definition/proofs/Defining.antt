@@ -15,23 +15,22 @@ use Rattle.brackets.specs.Stacks.{Full, Settled, full, over}
 use Rattle.brackets.proofs.Settling.{settled_as, settled_full, settled_over}
 use Rattle.storing.specs.Stored.{stored}
 use Rattle.afresh.specs.Judging.{bad_text}
-use Rattle.afresh.specs.Verdicts.{verdict_of}
+use Rattle.afresh.specs.Feeding.{verdict_of}
 use Rattle.afresh.specs.declared.Verdict.{Verdict}
 use Rattle.afresh.specs.declared.Verdict.TheVariants as verdict
-use Rattle.formals.specs.Extents.{extent_at, bars_of, Free}
-use Rattle.formals.specs.Heads.{head_at}
-use Rattle.formals.specs.Lists.{Formals, ill, whole, formals_at, shape_by}
-use Rattle.definition.specs.Definitions.{Definition, macro, bad, good, parameters_of, bad_formals, is_bad, text_at, judged_by, defined_by, unless_barred, definition_at}
-use Rattle.formals.specs.Answers.{list_of}
-use Rattle.definition.specs.Answers.{judged_of}
-use Rattle.formals.specs.declared.Extent.{Extent}
-use Rattle.formals.specs.declared.Head.{Head}
-use Rattle.formals.specs.declared.Formal.{Formal}
-use Rattle.formals.specs.declared.ListRead.{ListRead}
-use Rattle.formals.specs.declared.ListRead.TheVariants as list
+use Rattle.definition.specs.Extents.{extent_at, bars_of, Free}
+use Rattle.definition.specs.Heads.{head_at}
+use Rattle.definition.specs.Lists.{Formals, ill, whole, formals_at}
+use Rattle.definition.specs.Definitions.{Definition, macro, bad, good, parameters_of, bad_formals, is_bad, shape_by, text_at, judged_by, defined_by, unless_barred, definition_at}
+use Rattle.definition.specs.Answers.{list_of, judged_of}
+use Rattle.definition.specs.declared.Extent.{Extent}
+use Rattle.definition.specs.declared.Head.{Head}
+use Rattle.definition.specs.declared.Formal.{Formal}
+use Rattle.definition.specs.declared.ListRead.{ListRead}
+use Rattle.definition.specs.declared.ListRead.TheVariants as list
 use Rattle.definition.specs.declared.Judged.{Judged}
 use Rattle.definition.specs.declared.Judged.TheVariants as judged
-use Rattle.formals.proofs.Onward.{head_free, unbarred_free}
+use Rattle.definition.proofs.Onward.{head_free, unbarred_free}
 use Rattle.definition.proofs.Verdicts.{or_first, or_next, told_bad, told_good, told_short}
 
 -- the formals of a head that is whole

@@ -1,6 +1,13 @@
+pub mod Formals
+pub mod Reading
+pub mod Defaults
+pub mod Heading
+pub mod Counting
 pub mod Verdicts
-pub mod BadFormals
+pub mod Scanning
 pub mod Defining
+pub mod Seeing
+pub mod Onward
 pub mod Advance
 pub mod Computing
 pub mod Shielded

@@ -25,9 +25,8 @@ use Rattle.storing.specs.Stored.{joined_from, piece, pieces, keep, trim_left, tr
 use Rattle.storing.specs.Graves.{is_free, grave_in, has_grave}
 use Rattle.storing.proofs.Reading.{define_next}
 use Rattle.storing.proofs.Joining.{pieces_past, pieces_next}
-use Rattle.reader_state.specs.States.{is_open}
 use Rattle.afresh.specs.Judging.{bad_default}
-use Rattle.afresh.specs.Unfit.{held_by, unless, unfit_default}
+use Rattle.afresh.specs.Unfit.{held_by, is_open, unless, unfit_default}
 use Rattle.afresh.proofs.Sorts.{apart}
 use Rattle.afresh.proofs.Quoting.{string_past}
 use Rattle.judging.proofs.Shielding.{Shield, bare, quoted, escaped, spelled, skim, both_false, calm_skim, space_calm, closed_skim, spaced_skim, Skims, skims}
@@ -35,14 +34,14 @@ use Rattle.judging.proofs.Scanning.{string_closed}
 use Rattle.judging.proofs.Forming.{spaced_at}
 use Rattle.judging.proofs.Storable.{stored_made}
 use Rattle.judging.proofs.NothingMoreHeld.{nothing_more_held}
-use Rattle.formals.specs.Extents.{Free}
-use Rattle.formals.specs.Lists.{step_at, by_step, default_in, default_end}
-use Rattle.formals.specs.Answers.{FreeDefault}
-use Rattle.formals.specs.declared.Ending.{Ending}
-use Rattle.formals.specs.declared.Ending.TheVariants.{Upto, Torn}
-use Rattle.formals.specs.declared.Formal.{Formal}
-use Rattle.formals.proofs.Reading.{default_out, default_newline, default_on, default_done, default_torn}
-use Rattle.formals.proofs.Onward.{first_free, plain_step}
+use Rattle.definition.specs.Extents.{Free}
+use Rattle.definition.specs.Lists.{step_at, by_step, default_in, default_end}
+use Rattle.definition.specs.Answers.{FreeDefault}
+use Rattle.definition.specs.declared.Ending.{Ending}
+use Rattle.definition.specs.declared.Ending.TheVariants.{Upto, Torn}
+use Rattle.definition.specs.declared.Formal.{Formal}
+use Rattle.definition.proofs.Reading.{default_out, default_newline, default_on, default_done, default_torn}
+use Rattle.definition.proofs.Onward.{first_free, plain_step}
 
 -- ---- white space at both ends dropped
 

@@ -10,12 +10,12 @@ use Rattle.brackets.proofs.Settling.{settled_full, settled_over}
 use Rattle.storing.specs.Stored.{stored}
 use Rattle.storing.specs.Graves.{has_grave}
 use Rattle.afresh.specs.Unfit.{unfit_default}
-use Rattle.afresh.specs.Verdicts.{verdict_of}
+use Rattle.afresh.specs.Feeding.{verdict_of}
 use Rattle.afresh.specs.declared.Verdict.{Verdict}
 use Rattle.afresh.specs.declared.Verdict.TheVariants as verdict
 use Rattle.definition.specs.Definitions.{bad_formal}
-use Rattle.formals.specs.Answers.{FreeDefault}
-use Rattle.formals.specs.declared.Formal.{Formal}
+use Rattle.definition.specs.Answers.{FreeDefault}
+use Rattle.definition.specs.declared.Formal.{Formal}
 use Rattle.definition.proofs.Shielded.{default_more}
 
 -- the verdict on a test is not Short, and tells the test

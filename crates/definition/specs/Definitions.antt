@@ -8,12 +8,12 @@ use Rattle.names.specs.Names.{is_directive}
 use Rattle.storing.specs.Stored.{stored}
 use Rattle.storing.specs.Graves.{has_grave}
 use Rattle.afresh.specs.Judging.{bad_text, bad_default}
-use Rattle.formals.specs.Extents.{extent_at, bars_of}
-use Rattle.formals.specs.Heads.{head_at}
-use Rattle.formals.specs.Lists.{Formals, ill, whole, shape_by}
-use Rattle.formals.specs.declared.Extent.{Extent}
-use Rattle.formals.specs.declared.Head.{Head}
-use Rattle.formals.specs.declared.Formal.{Formal}
+use Rattle.definition.specs.Extents.{extent_at, bars_of}
+use Rattle.definition.specs.Heads.{head_at}
+use Rattle.definition.specs.Lists.{Formals, ill, whole, formals_at}
+use Rattle.definition.specs.declared.Extent.{Extent}
+use Rattle.definition.specs.declared.Head.{Head}
+use Rattle.definition.specs.declared.Formal.{Formal}
 
 -- a macro: its name, its formals with their defaults, its text
 pub data Parameter : Type 0 where
@@ -53,7 +53,10 @@ bad_formals s (f ∷ fs) =
     let r = bad_formals s fs in
     cond (bad_among s f fs) true r
 
--- where the macro text begins; none does if the head is not whole
+-- the formals of a head, and where the macro text begins; none does if the head is not whole
+abbrev pub shape_by : List ℕ → Head → Formals
+shape_by s h = cond h.whole (cond h.listed (formals_at s h.next) (whole [] h.next)) ill
+
 abbrev pub text_at : List ℕ → Formals → ℕ
 text_at s ill = length s
 text_at s (whole fs x) = x

@@ -1,2 +1,5 @@
+pub mod Extents
+pub mod Heads
+pub mod Lists
 pub mod Definitions
 pub mod Answers

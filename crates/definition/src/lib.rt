@@ -1,26 +1,83 @@
-// Whether a `define` is bad (document 01, "Macros"): its name, its formals, its macro text.
+// Reading a `define` (document 01, "Macros"): its extent, what bars it, its head and formal list, and whether it is bad.
 #![tactic(auto)]
 
-ghost use Rattle.std.specs.Prelude.{◌≡◌, List, ℕ, ◌≤◌, length};
+ghost use Rattle.std.specs.Prelude.{◌≡◌, List, [], ℕ, ◌*◌, ◌≤◌, length};
+ghost use Rattle.lex.specs.Faults.{no_fault};
 ghost use Rattle.text.specs.Bytes.{part};
 ghost use Rattle.storing.specs.Stored.{stored};
-ghost use Rattle.brackets.specs.Stacks.{Settled};
+ghost use Rattle.brackets.specs.Stacks.{stack_of, SteppedBy, Settled};
 ghost use Rattle.afresh.specs.Judging.{bad_text};
-ghost use Rattle.afresh.specs.Verdicts.{verdict_of};
-ghost use Rattle.formals.specs.Extents.{Free};
-ghost use Rattle.formals.specs.Lists.{formals_at, behind, whole, shape_by};
-ghost use Rattle.formals.specs.Answers.{FreeDefault};
-ghost use Rattle.definition.specs.Definitions.{bad_formal, named, bad_among, bad_formals, is_bad, judged_by, definition_at};
-ghost use Rattle.definition.specs.Answers.{judged_of};
+ghost use Rattle.afresh.specs.Feeding.{verdict_of};
+ghost use Rattle.definition.specs.Extents.{mark_of, extent_at, bars_of, Free};
+ghost use Rattle.definition.specs.Heads.{gap_end, open_at, head_at};
+ghost use Rattle.definition.specs.Heads.{head as head_of};
+ghost use Rattle.definition.specs.Lists.{step_at, default_end, given_formal, formal_at, formals_at, behind, whole};
+ghost use Rattle.definition.specs.Definitions.{bad_formal, named, bad_among, bad_formals, is_bad, shape_by, judged_by, definition_at};
+ghost use Rattle.definition.specs.Answers.{FreeDefault, list_of, judged_of};
 
 use afresh::Verdict;
-use formals::{
-    Formal, FormalRead, Head, ListRead, bars_of, extent_at, formal_at, head_at, shape_of,
-};
+use brackets::{Stepped, step};
 use judging::judge_stored;
+use lex::{
+    BYTE, ESCAPED, ESCAPED_QUOTE, Fault, JOINER, NAME, NEWLINE, QUOTE, Token, WHITE, fault_of,
+    in_definition, is_byte, is_gap, marks_after, token_at, worse,
+};
 use names::directive_of;
 use storing::has_grave;
-use text::{part_of, same};
+use text::{part_of, peek, same};
+
+// How far a definition reaches, what bars it, and the first joiner or quote mark in it, which bars it outside macro text.
+#[derive(Clone, Copy)]
+pub struct Extent {
+    pub end: usize,
+    pub bars: Fault,
+    pub mark: Fault,
+}
+
+// A definition's name, and whether a formal list starts at `next`, or else the macro text does.
+#[derive(Clone, Copy)]
+pub struct Head {
+    pub whole: bool,
+    pub from: usize,
+    pub end: usize,
+    pub listed: bool,
+    pub next: usize,
+}
+
+// Where a default ends, and past the `,` or `)` that ends it.
+#[derive(Clone, Copy)]
+pub enum Ending {
+    Upto(usize, usize),
+    Torn,
+    Short,
+}
+
+// A formal's name; its default, where one is given; the index past the `,` or `)` behind it; whether that is the `)`.
+#[derive(Clone, Copy)]
+pub struct Formal {
+    pub from: usize,
+    pub end: usize,
+    pub given: bool,
+    pub first: usize,
+    pub stop: usize,
+    pub next: usize,
+    pub last: bool,
+}
+
+#[derive(Clone, Copy)]
+pub enum FormalRead {
+    Whole(Formal),
+    IllFormed,
+    Short,
+}
+
+// The number of formals of a list and its end.
+#[derive(Clone, Copy)]
+pub enum ListRead {
+    Whole(usize, usize),
+    IllFormed,
+    Short,
+}
 
 // A definition: barred by 2 to 6 at a place; bad (11) or good, with its end; or the lent bytes are too few to tell.
 #[derive(Clone, Copy)]
@@ -29,6 +86,249 @@ pub enum Judged {
     Bad(usize),
     Good(usize),
     Short,
+}
+
+fn no_fault() -> Fault
+    ensures { result ≡ no_fault }
+{
+    Fault {
+        number: 0,
+        place: 0,
+    }
+}
+
+// The first joiner or quote mark, where `f` is the one before the token `t`.
+fn mark_of(f: Fault, t: Token) -> Fault
+    ensures { result ≡ mark_of f t }
+{
+    if f.number != 0 {
+        return f;
+    }
+    if (t.kind == QUOTE) | ((t.kind == ESCAPED_QUOTE) | (t.kind == JOINER)) {
+        return Fault {
+            number: 4,
+            place: t.at,
+        };
+    }
+    no_fault()
+}
+
+// The extent of the definition whose word ends at `at`.
+pub fn extent_at(s: &[u8], at: usize) -> Extent
+    ensures { result ≡ extent_at s.now at }
+{
+    let mut i = at;
+    let mut marks = false;
+    let mut bars = no_fault();
+    let mut mark = no_fault();
+    while i < s.len() {
+        let t = token_at(s, i, in_definition(marks));
+        if t.kind == NEWLINE {
+            return Extent { end: i, bars, mark };
+        }
+        bars = worse(bars, fault_of(t));
+        mark = mark_of(mark, t);
+        marks = marks_after(marks, t);
+        i = t.end;
+    }
+    Extent { end: i, bars, mark }
+}
+
+// What bars a definition whose macro text begins at `text`, where a joiner or quote mark before it bars too.
+fn bars_of(w: Extent, text: usize) -> Fault
+    ensures { result ≡ bars_of w text }
+{
+    let mark = w.mark;
+    let bars = w.bars;
+    if text <= mark.place {
+        return bars;
+    }
+    if bars.place < mark.place {
+        return worse(bars, mark);
+    }
+    worse(mark, bars)
+}
+
+// Past the spacing from `at` on.
+fn gap_end(s: &[u8], at: usize) -> usize
+    ensures { result ≡ gap_end s.now at }
+{
+    let mut i = at;
+    while i < s.len() {
+        let t = token_at(s, i, in_definition(false));
+        if !is_gap(t) {
+            return i;
+        }
+        i = t.end;
+    }
+    i
+}
+
+// Where a formal list opens, if one does, behind the name `t`.
+fn open_at(s: &[u8], t: Token) -> usize
+    requires { t.end ≤ length s.now }
+    ensures { result ≡ open_at s.now t }
+{
+    let u = token_at(s, t.end, in_definition(false));
+    if (t.kind == ESCAPED) & (u.kind == WHITE) {
+        return t.end + 1;
+    }
+    t.end
+}
+
+fn make_head(t: Token, listed: bool, next: usize) -> Head
+    ensures { result ≡ head_of t listed next }
+{
+    Head {
+        whole: true,
+        from: t.from,
+        end: t.end,
+        listed,
+        next,
+    }
+}
+
+// The head of the definition whose word ends at `at`.
+pub fn head_at(s: &[u8], at: usize) -> Head
+    ensures { result ≡ head_at s.now at }
+{
+    let t = token_at(s, gap_end(s, at), in_definition(false));
+    if !((t.kind == NAME) | (t.kind == ESCAPED)) {
+        return Head {
+            whole: false,
+            from: 0,
+            end: 0,
+            listed: false,
+            next: 0,
+        };
+    }
+    let p = open_at(s, t);
+    let u = token_at(s, p, in_definition(false));
+    if is_byte(s, u, 40) {
+        return make_head(t, true, p + 1);
+    }
+    make_head(t, false, t.end)
+}
+
+// What a token does in a default.
+fn step_at(s: &[u8], t: Token, stack: &mut [u8], depth: usize) -> Stepped
+    requires { depth ≤ 4 * length stack.old }
+    ensures { SteppedBy result (step_at s.now t (stack_of stack.old depth)) stack.old stack.new depth }
+{
+    if t.kind == QUOTE {
+        return Stepped::Torn;
+    }
+    if t.kind == BYTE {
+        return step(stack, depth, peek(s, t.at));
+    }
+    Stepped::On(depth)
+}
+
+// Where the default that starts at `at` ends.
+fn default_end(s: &[u8], at: usize, stack: &mut [u8]) -> Ending
+    ensures { Settled stack.old (length s.now) Ending.Short (default_end s.now at) result }
+{
+    let mut i = at;
+    let mut depth = 0;
+    while i < s.len() {
+        let t = token_at(s, i, in_definition(false));
+        if t.kind == NEWLINE {
+            return Ending::Torn;
+        }
+        let r = step_at(s, t, stack, depth);
+        match r {
+            Stepped::On(d) => {
+                depth = d;
+                i = t.end;
+                continue;
+            }
+            Stepped::Done => {
+                return Ending::Upto(t.at, t.end);
+            }
+            Stepped::Torn => {
+                return Ending::Torn;
+            }
+            Stepped::Short => {
+                return Ending::Short;
+            }
+        }
+    }
+    Ending::Torn
+}
+
+// The formal `t`, whose default starts at `at`.
+fn given_formal(s: &[u8], t: Token, at: usize, stack: &mut [u8]) -> FormalRead
+    ensures { Settled stack.old (length s.now) FormalRead.Short (given_formal s.now t at (default_end s.now at)) result }
+{
+    let r = default_end(s, at, stack);
+    match r {
+        Ending::Upto(e, x) => FormalRead::Whole(Formal {
+            from: t.from,
+            end: t.end,
+            given: true,
+            first: at,
+            stop: e,
+            next: x,
+            last: peek(s, e) == 41,
+        }),
+        Ending::Torn => FormalRead::IllFormed,
+        Ending::Short => FormalRead::Short,
+    }
+}
+
+// The formal at `at`.
+pub fn formal_at(s: &[u8], at: usize, stack: &mut [u8]) -> FormalRead
+    ensures { Settled stack.old (length s.now) FormalRead.Short (formal_at s.now at) result }
+{
+    let t = token_at(s, gap_end(s, at), in_definition(false));
+    if t.kind != NAME {
+        return FormalRead::IllFormed;
+    }
+    let u = token_at(s, gap_end(s, t.end), in_definition(false));
+    if is_byte(s, u, 61) {
+        return given_formal(s, t, u.end, stack);
+    }
+    let last = is_byte(s, u, 41);
+    if is_byte(s, u, 44) | last {
+        return FormalRead::Whole(Formal {
+            from: t.from,
+            end: t.end,
+            given: false,
+            first: 0,
+            stop: 0,
+            next: u.end,
+            last,
+        });
+    }
+    FormalRead::IllFormed
+}
+
+// The formal list from `at` on.
+pub fn list_at(s: &[u8], at: usize, stack: &mut [u8]) -> ListRead
+    ensures { Settled stack.old (length s.now) ListRead.Short (list_of (formals_at s.now at)) result }
+{
+    let mut i = at;
+    let mut n = 0;
+    while i < s.len() {
+        let r = formal_at(s, i, stack);
+        match r {
+            FormalRead::Whole(f) => {
+                n += 1;
+                i = f.next;
+                if f.last {
+                    return ListRead::Whole(n, i);
+                }
+                continue;
+            }
+            FormalRead::IllFormed => {
+                return ListRead::IllFormed;
+            }
+            FormalRead::Short => {
+                return ListRead::Short;
+            }
+        }
+    }
+    ListRead::IllFormed
 }
 
 // Whether a formal of the list from `at` on has the name from `from` to before `end`.
@@ -136,6 +436,19 @@ fn text_verdict(s: &[u8], at: usize, end: usize, name: &mut [u8], stack: &mut [u
     ensures { Free s.now at → Settled stack.old (length s.now) Verdict.Short (verdict_of (bad_text (stored s.now at end))) result }
 {
     judge_stored(s, at, end, true, name, stack)
+}
+
+// The formals of a head and where the macro text begins.
+pub fn shape_of(s: &[u8], h: Head, stack: &mut [u8]) -> ListRead
+    ensures { Settled stack.old (length s.now) ListRead.Short (list_of (shape_by s.now h)) result }
+{
+    if !h.whole {
+        return ListRead::IllFormed;
+    }
+    if !h.listed {
+        return ListRead::Whole(0, h.next);
+    }
+    list_at(s, h.next, stack)
 }
 
 // Whether the formals of a head are bad.

@@ -22,9 +22,9 @@ use Rattle.directive.specs.declared.Raw.{Raw}
 use Rattle.directive.specs.declared.Raw.TheVariants.{Closed, Open}
 use Rattle.directive.specs.declared.FileName.{FileName}
 use Rattle.directive.specs.declared.FileName.TheVariants.{Unnamed}
-use Rattle.line_words.specs.Words.{wraps}
+use Rattle.directive.specs.Words.{wraps}
 use Rattle.directive.specs.Include.{raw_from, raw_end, line, behind, name_at, include_in}
-use Rattle.line_words.proofs.Wording.{token_first}
+use Rattle.directive.proofs.Wording.{token_first}
 
 -- a raw name from i on
 module _ (s : List ℕ) (i : ℕ) (ok : Bool) where

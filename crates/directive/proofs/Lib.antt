@@ -1,3 +1,5 @@
+pub mod Wording
 pub mod Including
+pub mod Timing
 pub mod Advance
 pub mod Undefining

@@ -6,15 +6,15 @@ use mathlib.Core.List.{List}
 use mathlib.Core.Path.{◌≡◌, refl}
 use Rattle.lex.specs.Tokens.{Name, Escaped, is}
 use Rattle.names.specs.Names.{Undef}
-use Rattle.line_words.specs.declared.Word.{Word}
-use Rattle.line_words.specs.declared.Word.TheVariants as word
+use Rattle.directive.specs.declared.Word.{Word}
+use Rattle.directive.specs.declared.Word.TheVariants as word
 use Rattle.directive.specs.declared.Value.TheVariants.{Nothing}
-use Rattle.timescale.specs.declared.Read.TheVariants.{Said, Unformed}
+use Rattle.directive.specs.declared.Read.TheVariants.{Said, Unformed}
 use Rattle.directive.specs.declared.MacroName.{MacroName}
 use Rattle.directive.specs.declared.MacroName.TheVariants as name
 use Rattle.directive.specs.declared.Form.{Form}
 use Rattle.directive.specs.declared.Form.TheVariants as form
-use Rattle.line_words.specs.Words.{word_at}
+use Rattle.directive.specs.Words.{word_at}
 use Rattle.directive.specs.Forms.{undef_by, undef_form, read_at, value_of, form_by, form_at, name_by, undef_at}
 
 -- a directive that says nothing, and ends where its name ends

@@ -6,7 +6,7 @@ use Rattle.lex.specs.Tokens.{in_file, Newline, String, is, is_byte, is_gap, toke
 use Rattle.lex.specs.Faults.{fault, no_fault, fault_of, worse_of}
 use Rattle.lex.specs.declared.Token.{Token}
 use Rattle.lex.specs.declared.Fault.{Fault}
-use Rattle.line_words.specs.Words.{wraps}
+use Rattle.directive.specs.Words.{wraps}
 use Rattle.directive.specs.declared.Raw.{Raw}
 use Rattle.directive.specs.declared.Raw.TheVariants.{Closed, Open}
 use Rattle.directive.specs.declared.FileName.{FileName}

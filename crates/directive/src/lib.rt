@@ -2,23 +2,30 @@
 #![tactic(auto)]
 
 ghost use Rattle.std.specs.Prelude.{◌≡◌, ◌<◌, ◌+◌, length};
+ghost use Rattle.directive.specs.Words.{is_between, word_start, word_at};
 ghost use Rattle.directive.specs.Include.{raw_end, behind_at, name_at, include_at};
 ghost use Rattle.directive.specs.Include.{line as includeLine};
-ghost use Rattle.directive.specs.Forms.{undef_form, takes_entry, entry_kind, entry_in, entry_form, include_form, stands_alone, read_at, value_of, form_at, undef_at};
+ghost use Rattle.directive.specs.Forms.{undef_form, unit_after, magnitude, time_at, precision_form, slash_form, timescale_form, takes_entry, entry_kind, entry_in, entry_form, include_form, stands_alone, read_at, value_of, form_at, undef_at};
+ghost use Rattle.directive.specs.Forms.{power as powerOf};
 
-use form_words::{UNKNOWN, drive_of, nettype_of, version_of};
 use lex::{
-    ESCAPED, Fault, NAME, NEWLINE, STRING, Token, fault_of, in_file, is_byte, is_gap, is_legal,
-    scan_at, token_at, worse,
+    BLOCK_COMMENT, END, ESCAPED, Fault, NAME, NEWLINE, NUMBER, STRING, Token, fault_of, in_file,
+    is_byte, is_gap, is_legal, is_white, scan_at, token_at, worse,
 };
-use line_words::{Word, word_at};
 use names::{
     BEGIN_KEYWORDS, CELLDEFINE, DEFAULT_NETTYPE, ELSE, END_CELLDEFINE, END_KEYWORDS, ENDIF,
     FILE_WORD, INCLUDE, LINE_WORD, NO_UNCONNECTED_DRIVE, RESETALL, TIMESCALE, UNCONNECTED_DRIVE,
-    UNDEF, UNDEFINE_ALL,
+    UNDEF, UNDEFINE_ALL, UNKNOWN, drive_of, nettype_of, unit_of, version_of,
 };
-use text::{holds_in, part_of};
-use timescale::{Read, timescale_form};
+use text::{begins_at, holds_in, part_of};
+
+// The next word on a directive's line; none; or a token before it that 2 to 6 bar, with its place.
+#[derive(Clone, Copy)]
+pub enum Word {
+    Found(Token),
+    Missing,
+    Barred(usize, usize),
+}
 
 // What a directive says.
 #[derive(Clone, Copy)]
@@ -39,6 +46,15 @@ pub enum Value {
     Reset,
 }
 
+// A directive of its form, as read: two numbers that it says, 0 where it says none, and its end; an ill_formed one; or a token
+// of it that 2 to 6 bar, with its place.
+#[derive(Clone, Copy)]
+pub enum Read {
+    Said(usize, usize, usize),
+    Unformed,
+    Barred(usize, usize),
+}
+
 // A directive of its form, with its end; an ill_formed one; or a token of it that 2 to 6 bar, with its place.
 #[derive(Clone, Copy)]
 pub enum Form {
@@ -53,6 +69,14 @@ pub enum Form {
 pub enum MacroName {
     Named(usize, usize),
     Unnamed,
+    Barred(usize, usize),
+}
+
+// A time as a power of ten of 1 fs, and its end.
+#[derive(Clone, Copy)]
+pub enum Time {
+    Power(usize, usize),
+    Unformed,
     Barred(usize, usize),
 }
 
@@ -80,6 +104,50 @@ pub struct IncludeLine {
     pub other: bool,
 }
 
+// Whether the token `t` may stand between words of one line.
+fn is_between(s: &[u8], t: Token) -> bool
+    ensures { result ≡ is_between s.now t }
+{
+    (t.bar == 0) & (is_gap(t) & !((t.kind == BLOCK_COMMENT) & holds_in(s, t.at, t.end, 10)))
+}
+
+// Where the next word from `at` on starts, or what stands there instead on this line.
+pub fn word_start(s: &[u8], at: usize) -> usize
+    ensures { result ≡ word_start s.now at }
+{
+    let mut i = at;
+    while i < s.len() {
+        let b = s[i];
+        if is_white(b) {
+            i += 1;
+            continue;
+        }
+        if b != 47 {
+            return i;
+        }
+        let t = token_at(s, i, in_file());
+        if !is_between(s, t) {
+            return i;
+        }
+        i = t.end;
+    }
+    i
+}
+
+// The next word from `at` on.
+pub fn word_at(s: &[u8], at: usize) -> Word
+    ensures { result ≡ word_at s.now at }
+{
+    let t = token_at(s, word_start(s, at), in_file());
+    if t.bar != 0 {
+        return Word::Barred(t.bar, t.at);
+    }
+    if (t.kind == NEWLINE) | (is_gap(t) | (t.kind == END)) {
+        return Word::Missing;
+    }
+    Word::Found(t)
+}
+
 // The name behind an `undef`, without `\`: from, end.
 fn undef_form(s: &[u8], at: usize) -> Read
     ensures { result ≡ undef_form s.now at }
@@ -94,6 +162,114 @@ fn undef_form(s: &[u8], at: usize) -> Read
         }
         Word::Missing => Read::Unformed,
         Word::Barred(n, p) => Read::Barred(n, p),
+    }
+}
+
+// A time of the unit `word`, as ten to the `n` of it.
+fn power(word: &[u8], n: usize, end: usize) -> Time
+    requires { n < 3 }
+    ensures { result ≡ powerOf word.now n end }
+{
+    let u = unit_of(word);
+    if u == UNKNOWN {
+        return Time::Unformed;
+    }
+    Time::Power(n + u, end)
+}
+
+// The unit of the number `t`, whose first `digits` bytes are ten to the `n`.
+fn unit_after(s: &[u8], t: Token, digits: usize, n: usize) -> Time
+    requires { (t.at < length s.now) × (digits < 4) × (n < 3) }
+    ensures { result ≡ unit_after s.now t digits n }
+{
+    let from = t.at + digits;
+    if from != t.end {
+        return power(part_of(s, from, t.end), n, t.end);
+    }
+    let w = word_at(s, t.end);
+    match w {
+        Word::Found(u) => {
+            if u.kind == NAME {
+                return power(part_of(s, u.at, u.end), n, u.end);
+            }
+            Time::Unformed
+        }
+        Word::Missing => Time::Unformed,
+        Word::Barred(b, p) => Time::Barred(b, p),
+    }
+}
+
+fn magnitude_of(s: &[u8], t: Token) -> Time
+    requires { t.at < length s.now }
+    ensures { result ≡ magnitude s.now t }
+{
+    if t.kind != NUMBER {
+        return Time::Unformed;
+    }
+    if begins_at(s, t.at, b"100") {
+        return unit_after(s, t, 3, 2);
+    }
+    if begins_at(s, t.at, b"10") {
+        return unit_after(s, t, 2, 1);
+    }
+    if begins_at(s, t.at, b"1") {
+        return unit_after(s, t, 1, 0);
+    }
+    Time::Unformed
+}
+
+fn time_at(s: &[u8], at: usize) -> Time
+    ensures { result ≡ time_at s.now at }
+{
+    let w = word_at(s, at);
+    match w {
+        Word::Found(t) => magnitude_of(s, t),
+        Word::Missing => Time::Unformed,
+        Word::Barred(b, p) => Time::Barred(b, p),
+    }
+}
+
+fn precision_form(s: &[u8], unit: usize, at: usize) -> Read
+    ensures { result ≡ precision_form s.now unit at }
+{
+    let time = time_at(s, at);
+    match time {
+        Time::Power(p, e) => {
+            if unit < p {
+                return Read::Unformed;
+            }
+            Read::Said(unit, p, e)
+        }
+        Time::Unformed => Read::Unformed,
+        Time::Barred(b, p) => Read::Barred(b, p),
+    }
+}
+
+// The `/` and the precision behind the unit.
+fn slash_form(s: &[u8], unit: usize, at: usize) -> Read
+    ensures { result ≡ slash_form s.now unit at }
+{
+    let w = word_at(s, at);
+    match w {
+        Word::Found(t) => {
+            if is_byte(s, t, 47) {
+                return precision_form(s, unit, t.end);
+            }
+            Read::Unformed
+        }
+        Word::Missing => Read::Unformed,
+        Word::Barred(b, p) => Read::Barred(b, p),
+    }
+}
+
+fn timescale_form(s: &[u8], at: usize) -> Read
+    ensures { result ≡ timescale_form s.now at }
+{
+    let time = time_at(s, at);
+    match time {
+        Time::Power(u, e) => slash_form(s, u, e),
+        Time::Unformed => Read::Unformed,
+        Time::Barred(b, p) => Read::Barred(b, p),
     }
 }
 

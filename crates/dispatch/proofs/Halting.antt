@@ -13,19 +13,19 @@ use Rattle.lex.proofs.Tests.{true_false}
 use Rattle.lex.proofs.Progress.{token-at}
 use Rattle.names.specs.Names.{Define, Ifdef, Endif, directive_of}
 use Rattle.definition.specs.Definitions.{Macro, definition_at}
-use Rattle.finding.specs.Buffers.{Holds}
+use Rattle.store.specs.Buffers.{Holds}
 use Rattle.blocks.specs.Blocks.{taken_by}
 use Rattle.blocks.specs.Stacks.{open_in}
-use Rattle.cursor.specs.declared.Cursor.{Cursor}
-use Rattle.cursor.specs.Cursors.{stops_at, cursor_past, cursor_behind}
+use Rattle.copying.specs.declared.Cursor.{Cursor}
+use Rattle.copying.specs.Cursors.{stops_at, cursor_past, cursor_behind}
 use Rattle.turns.specs.States.{Context, Here, behind, frames_at, go_to}
 use Rattle.turns.specs.Acts.{leaves, skips, hide_act, taken_act, act_at}
 use Rattle.turns.specs.Performing.{perform}
 use Rattle.reading.specs.Reading.{Halts}
-use Rattle.stage.specs.declared.Stage.{Stage}
-use Rattle.stage.specs.declared.Step.TheVariants as step
-use Rattle.stage.specs.Standing.{bufs, here_of, with_cursor, Ok, Fixed, At, Performed}
-use Rattle.stage.proofs.Going.{body_here, token_at_here, token_here, goes_behind}
+use Rattle.steps.specs.declared.stage.Stage.{Stage}
+use Rattle.steps.specs.declared.stage.Step.TheVariants as step
+use Rattle.steps.specs.Standing.{bufs, here_of, with_cursor, Ok, Fixed, At, Performed}
+use Rattle.steps.proofs.Going.{body_here, token_at_here, token_here, goes_behind}
 
 -- such a token is the end or a grave accent name
 grave_here : (t : Token) → stops_at t ≡ true → t.bar ≡ 0 → (t.kind ≡ End → ⊥) → t.kind ≡ Grave

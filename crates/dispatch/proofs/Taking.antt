@@ -16,11 +16,10 @@ use Rattle.macros.specs.Defining.{Ready}
 use Rattle.copying.specs.Copying.{Reads}
 use Rattle.turns.specs.States.{Here}
 use Rattle.turns.specs.Acts.{undefines, expands, define_act, undef_act, include_act, keep_act, taken_act}
-use Rattle.stage.specs.declared.Stage.{Stage}
-use Rattle.stage.specs.Standing.{At}
-use Rattle.putting.specs.Putting.{PlaceLent, UsageLent, place_act}
+use Rattle.steps.specs.declared.stage.Stage.{Stage}
+use Rattle.steps.specs.Standing.{At, PlaceLent, UsageLent, place_act}
 use Rattle.dispatch.specs.Going.{Works, GoingIn}
-use Rattle.stage.proofs.Going.{reads_here, token_here}
+use Rattle.steps.proofs.Going.{reads_here, token_here}
 
 -- ---- what the functions need
 

@@ -1,10 +1,10 @@
 -- What a run can go on from, and its work space.
 -- Assumes nothing.
 use Rattle.std.specs.Prelude.{ℕ, ◌≤◌, true, ◌≡◌, List, length}
-use Rattle.entries.specs.Entries.{Stored}
+use Rattle.store.specs.Buffers.{Stored}
 use Rattle.handover.specs.Entries.{all_entries}
-use Rattle.stage.specs.declared.Stage.{Stage}
-use Rattle.stage.specs.Standing.{Bufs, bufs, Ok}
+use Rattle.steps.specs.declared.stage.Stage.{Stage}
+use Rattle.steps.specs.Standing.{Bufs, bufs, Ok}
 
 -- the work space of a run
 pub record Works (list out ranges : List (List ℕ)) (stack work quoted decimal name form : List ℕ) : Type 0 where

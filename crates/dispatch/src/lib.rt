@@ -4,15 +4,15 @@
 ghost use Rattle.std.specs.Prelude.{List, ℕ};
 ghost use Rattle.turns.specs.Acts.{taken_act, act_at};
 ghost use Rattle.reading.specs.Reading.{Halts};
-ghost use Rattle.stage.specs.Standing.{bufs, At, Performs};
+ghost use Rattle.steps.specs.Standing.{bufs, At, Performs};
 ghost use Rattle.dispatch.specs.Going.{Works, GoingIn};
 
-use defining::{define, hide, undef, undef_all};
-use entering::{end_file, enter};
 use lex::{END, Token};
 use names::{DEFINE, END_KEYWORDS, INCLUDE, RESETALL, UNDEF, UNDEFINE_ALL};
-use putting::{keep_on, usage, write_place_word};
-use stage::{Stage, Step, behind};
+use steps::defining::{define, hide, undef, undef_all};
+use steps::entering::{end_file, enter};
+use steps::putting::{keep_on, usage, write_place_word};
+use steps::stage::{Stage, Step, behind};
 
 // A grave accent name in taken text that is no conditional word; `d`: the directive, 0 if there is none.
 fn take<'a>(

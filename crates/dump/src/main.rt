@@ -2,9 +2,9 @@
 // lengths lent for text, map, records, macro bytes and words; the replacement limit; the starting keyword set; the root.
 #![tactic(auto)]
 
-use formats::least;
-use libc::{STDERR_FILENO, STDIN_FILENO};
+use formats::{STDERR_FILENO, STDIN_FILENO, least, read_argument};
 use options::{NO_NUMBER, number_of};
+use std::rt::Env;
 
 fn complain(i: usize, most: usize) {
     io::write_all(STDERR_FILENO, b"dump: argument ");
@@ -15,9 +15,9 @@ fn complain(i: usize, most: usize) {
 }
 
 // Argument `i`, with a message where it is no number up to `most`.
-fn argument(i: usize, most: usize) -> usize {
+fn argument(rt: &impl Env, i: usize, most: usize) -> usize {
     let mut word = [0u8; 16];
-    let n = os::arg(i, &mut word);
+    let n = read_argument(rt, i, &mut word);
     let x = number_of(&word[..n]);
     if most < x {
         complain(i, most);
@@ -27,6 +27,7 @@ fn argument(i: usize, most: usize) -> usize {
 
 // Dumps the outcome for the limit, the keyword set and the root of the arguments.
 fn dump_lent(
+    rt: &impl Env,
     s: &[u8],
     text: &mut [u8],
     map: &mut [u32],
@@ -34,9 +35,9 @@ fn dump_lent(
     bytes: &mut [u8],
     words: &mut [[u32; 3]],
 ) {
-    let limit = argument(6, 3999999999);
-    let set = argument(7, 3999999999);
-    let root = argument(8, 3999999999);
+    let limit = argument(rt, 6, 3999999999);
+    let set = argument(rt, 7, 3999999999);
+    let root = argument(rt, 8, 3999999999);
     if (limit == NO_NUMBER) | (set == NO_NUMBER) | (root == NO_NUMBER) {
         return;
     }
@@ -55,6 +56,7 @@ fn dump_lent(
 
 // Lends as much of the buffers as the arguments say.
 fn run(
+    rt: &impl Env,
     s: &[u8],
     text: &mut [u8],
     map: &mut [u32],
@@ -62,11 +64,11 @@ fn run(
     bytes: &mut [u8],
     words: &mut [[u32; 3]],
 ) {
-    let a = argument(1, text.len());
-    let b = argument(2, map.len());
-    let c = argument(3, records.len());
-    let d = argument(4, bytes.len());
-    let e = argument(5, words.len());
+    let a = argument(rt, 1, text.len());
+    let b = argument(rt, 2, map.len());
+    let c = argument(rt, 3, records.len());
+    let d = argument(rt, 4, bytes.len());
+    let e = argument(rt, 5, words.len());
     if (text.len() < a)
         | (map.len() < b)
         | (records.len() < c)
@@ -81,6 +83,7 @@ fn run(
     let d = least(d, bytes.len());
     let e = least(e, words.len());
     dump_lent(
+        rt,
         s,
         &mut text[0..a],
         &mut map[0..b],
@@ -91,7 +94,7 @@ fn run(
 }
 
 // The input is one byte longer than is taken, so that a longer one shows.
-fn main() {
+fn main(rt: HostRuntime) {
     let mut input = [0u8; 200001];
     let n = io::read_full(STDIN_FILENO, &mut input);
     if 200000 < n {
@@ -104,6 +107,7 @@ fn main() {
     let mut bytes = [0u8; 70000];
     let mut words = [[0u32; 3]; 65536];
     run(
+        &rt,
         &input[..n],
         &mut text,
         &mut map,

@@ -12,9 +12,7 @@ use Rattle.definition.specs.Definitions.{Macro, Definition, barred, bad, good, d
 use Rattle.definition.proofs.Computing.{defining}
 use Rattle.store.specs.Stores.{define}
 use Rattle.writing.specs.Written.{text_of, Room}
-use Rattle.pending.specs.Spelled.{Outer}
-use Rattle.called.specs.Expansions.{Expansion}
-use Rattle.expand.specs.Expanding.{expand}
+use Rattle.expand.specs.Expanding.{Outer, Expansion, expand}
 use Rattle.expand.proofs.Computing.{expanding}
 
 -- a usage's refusal (0: none), its replacements, and what is written

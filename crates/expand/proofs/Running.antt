@@ -13,9 +13,8 @@ use Rattle.lex.specs.Tokens.{in_file}
 use Rattle.lex.proofs.Progress.{token-at}
 use Rattle.definition.specs.Definitions.{Parameter, Macro, macro}
 use Rattle.sets.specs.Sets.{elem, insert_asc, members}
-use Rattle.finding.specs.Stores.{macro_text, find, macro_at}
-use Rattle.finding.specs.Buffers.{Holds}
-use Rattle.entries.specs.Entries.{Stored}
+use Rattle.store.specs.Stores.{macro_text, find, macro_at}
+use Rattle.store.specs.Buffers.{Holds, Stored}
 use Rattle.writing.specs.Written.{Written, placed, text_of, map_of, fresh_after, Room, Put, full, fitted, put_in}
 use Rattle.writing.specs.Buffers.{room_of, Puts as Written-by, WroteBy}
 use Rattle.writing.specs.declared.Spot.{Spot}
@@ -26,7 +25,6 @@ use Rattle.pending.specs.declared.Pend.{Pend}
 use Rattle.pending.specs.Pending.{Pending, file_from, View, calls, is_call, view, on_usage}
 use Rattle.pending.specs.References.{pending_by, pend_of, blank, stacked}
 use Rattle.pending.specs.Sources.{items_from}
-use Rattle.pending.specs.Spelled.{Outer, writes}
 use Rattle.pending.proofs.Seeing.{from_out, from_more}
 use Rattle.pending.proofs.Viewing.{not_usage}
 use Rattle.arguments.specs.declared.Sought.{Sought}
@@ -34,24 +32,19 @@ use Rattle.arguments.specs.declared.Sought.TheVariants as sought
 use Rattle.arguments.specs.Ranges.{Ranged}
 use Rattle.packed.specs.Records.{blank_record, RecordIs}
 use Rattle.packed.specs.declared.Record.{Record}
-use Rattle.tidying.specs.Tidying.{tidy_all}
+use Rattle.replace.specs.Tidying.{tidy_all}
 use Rattle.replace.specs.Placing.{MacroIn, UsageIn}
 use Rattle.replace.specs.Replacing.{Listed, list_for, with_list, text_with, Got, refused, got, replace_by, replace, deepest}
-use Rattle.called.specs.declared.Called.{Called}
-use Rattle.called.specs.declared.Called.TheVariants as called
-use Rattle.called.specs.declared.Stand.{Stand}
-use Rattle.usages.specs.declared.Turn.{Turn}
-use Rattle.usages.specs.declared.Turn.TheVariants as turn
+use Rattle.expand.specs.declared.usages.Called.{Called}
+use Rattle.expand.specs.declared.usages.Called.TheVariants as called
+use Rattle.expand.specs.declared.Stand.{Stand}
+use Rattle.expand.specs.declared.Turn.{Turn}
+use Rattle.expand.specs.declared.Turn.TheVariants as turn
 use Rattle.expand.specs.declared.Expanded.{Expanded}
-use Rattle.called.specs.Expansions.{Expansion, ends, writing, replacing, Next, on_got, on_put, walk, onward}
-use Rattle.expand.specs.Expanding.{first, goes_on, expand}
-use Rattle.called.specs.Calling.{CalledBy}
-use Rattle.called.specs.Counting.{left_of, replaced_to}
-use Rattle.usages.specs.Standing.{Accepts, AcceptedBy, Puts, PutBy, ReplacedBy}
-use Rattle.spelling.specs.Lent.{Within}
-use Rattle.expand.specs.Standing.{written_to, rest_of, stopped_at, Final, finish, Stands, weight_of, Goes, SteppedBy, Ends, Expands}
-use Rattle.usages.proofs.Calling.{formals_of, macro_in}
-use Rattle.called.proofs.Naming.{usage_view}
+use Rattle.expand.specs.Expanding.{Outer, Expansion, ends, writing, replacing, Next, on_got, on_put, writes, walk, onward, first, goes_on, expand}
+use Rattle.expand.specs.Standing.{Within, CalledBy, Accepts, AcceptedBy, left_of, replaced_to, written_to, Puts, PutBy, ReplacedBy, rest_of, stopped_at, Final, finish, Stands, weight_of, Goes, SteppedBy, Ends, Expands}
+use Rattle.expand.proofs.Calling.{formals_of, macro_in}
+use Rattle.expand.proofs.Naming.{usage_view}
 
 -- ---- the walk over the pending list
 

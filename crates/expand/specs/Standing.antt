@@ -1,26 +1,123 @@
 -- Where an expansion stands, and how it ends from there.
 -- Assumes nothing.
-use Rattle.std.specs.Prelude.{ℕ, max, ◌+◌, ◌-◌, ◌*◌, ◌<◌, ◌≤◌, ◌≡◌, List, length}
+use Rattle.std.specs.Prelude.{ℕ, max, ◌+◌, ◌-◌, ◌*◌, ◌<◌, ◌≤◌, true, false, ◌≡◌, List, [], ◌∷◌, ◌++◌, length}
 use Rattle.std.proofs.lemmas.List.Edits.{sets}
 use Rattle.definition.specs.Definitions.{Macro}
-use Rattle.writing.specs.Written.{text_of, map_of}
+use Rattle.sets.specs.Sets.{elem}
+use Rattle.store.specs.Buffers.{Stored}
+use Rattle.store.specs.declared.Found.{Found}
+use Rattle.store.specs.declared.Found.TheVariants as found
+use Rattle.writing.specs.Written.{text_of, map_of, Room}
 use Rattle.writing.specs.Buffers.{room_of, spot_after}
 use Rattle.writing.specs.declared.Spot.{Spot}
+use Rattle.pending.specs.Pending.{Pending}
 use Rattle.pending.specs.References.{stacked}
-use Rattle.pending.specs.Spelled.{Outer}
-use Rattle.replace.specs.Replacing.{deepest}
-use Rattle.called.specs.declared.Stand.{Stand}
-use Rattle.usages.specs.declared.Turn.{Turn}
-use Rattle.usages.specs.declared.Turn.TheVariants as turn
-use Rattle.called.specs.Counting.{left_of}
-use Rattle.spelling.specs.Lent.{Within}
+use Rattle.arguments.specs.Ranges.{Ranged, Unplaced}
+use Rattle.arguments.specs.declared.Sought.{Sought}
+use Rattle.arguments.specs.declared.Sought.TheVariants as sought
+use Rattle.packed.specs.declared.Record.{Record}
+use Rattle.packed.specs.Records.{Small}
+use Rattle.replace.specs.Replacing.{Listed, barred, listed, Got, refused, got, replace_at, replace, deepest}
+use Rattle.expand.specs.declared.usages.Called.{Called}
+use Rattle.expand.specs.declared.usages.Called.TheVariants as called
+use Rattle.expand.specs.declared.Stand.{Stand}
+use Rattle.expand.specs.declared.Turn.{Turn}
+use Rattle.expand.specs.declared.Turn.TheVariants as turn
 use Rattle.expand.specs.declared.Expanded.{Expanded}
-use Rattle.called.specs.Expansions.{Expansion, ends, walk, onward}
-use Rattle.expand.specs.Expanding.{first, goes_on, expand}
+use Rattle.expand.specs.Expanding.{Outer, Expansion, ends, on_got, walk, onward, first, goes_on, expand}
+
+-- the outermost usage, from what the code is handed
+abbrev pub outer : List ℕ → List ℕ → ℕ → Outer
+outer file line place = record { file = file; line = line; place = place }
+
+-- what is lent to an expansion, beside the text and the map
+pub record Lends (s b : List ℕ) (r : List (List ℕ)) (macros : ℕ) (l o ranges : List (List ℕ)) (brackets : List ℕ) : Type 0 where
+  pub file_small : length s ≤ 65535
+  pub bytes_small : length b ≤ 65536
+  pub few_macros : macros ≤ 256
+  pub stored : Stored b r macros
+  pub list_lent : 1024 ≤ length l
+  pub out_lent : 1024 ≤ length o
+  pub ranges_lent : 256 ≤ length ranges
+  pub brackets_lent : 16384 ≤ length brackets
+
+-- a place in the lent text and map
+pub record Within (text map : List ℕ) (z : Spot) : Type 0 where
+  pub in_text : z.written ≤ length text
+  pub in_map : z.lines ≤ length map
+
+-- what is lent to write a token
+pub record Spells (s b work text map : List ℕ) (z : Spot) : Type 0 where
+  pub file_small : length s ≤ 65535
+  pub bytes_small : length b ≤ 65536
+  pub work_lent : 65539 ≤ length work
+  pub spot : Within text map z
+
+-- what a usage names: a macro that is not in its set, or 13 or 16
+abbrev pub CalledBy : Called → Found → List Macro → List ℕ → ℕ → Type 0
+CalledBy (called.Macro i) f ms set n = (f ≡ found.At i) × (elem i set ≡ false) × (i < n)
+CalledBy (called.Refused k) f ms set n = (ps : List Pending) → replace_at f ms set ps ≡ refused k 0
+
+-- the list of a usage, its arguments in ranges
+pub record Accepts (g : Listed) (f : ℕ → List Pending) (last : ℕ) (ranges : List (List ℕ)) (c e : ℕ) : Type 0 where
+  pub arguments : List (List Pending)
+  pub shape : g ≡ listed arguments (f e)
+  pub count : c ≡ length arguments
+  pub ranged : Ranged f last ranges arguments
+  pub unplaced : Unplaced ranges c
+  pub within : e ≤ last
+
+abbrev pub AcceptedBy : Sought → Listed → (ℕ → List Pending) → ℕ → List (List ℕ) → Type 0
+AcceptedBy (sought.List c e) g f last ranges = Accepts g f last ranges c e
+AcceptedBy (sought.Refused n p) g f last ranges = g ≡ barred n p
+
+-- what is lent to put the text of macro i on the first `base` pending tokens
+pub record PutsIn (b : List ℕ) (q : Record) (i : ℕ) (l : List (List ℕ)) (n base : ℕ) (ranges o : List (List ℕ)) : Type 0 where
+  pub bytes_small : length b ≤ 65536
+  pub record_small : Small q
+  pub macro_small : i < 256
+  pub filled : n ≤ length l
+  pub base_small : base ≤ 1024
+  pub list_lent : 1024 ≤ length l
+  pub out_lent : 1024 ≤ length o
+  pub ranges_lent : 256 ≤ length ranges
+
+-- the replacements left
+abbrev pub left_of : ℕ → Stand → ℕ
+left_of limit z = limit - z.count
+
+-- the stand after a replacement: n pending tokens, the new ones with sets of at most d members
+abbrev pub replaced_to : Stand → ℕ → ℕ → Stand
+replaced_to z n d = record { depth = n; count = z.count + 1; deepest = max z.deepest d; spot = z.spot }
 
 -- the stand behind a token that was written
 abbrev pub written_to : Stand → Spot → Stand
 written_to z y = record { depth = z.depth - 1; count = z.count; deepest = z.deepest; spot = y }
+
+-- q stands in the place of a usage before `rest`
+pub record Puts (s b : List ℕ) (l' : List (List ℕ)) (q rest : List Pending) (limit : ℕ) (z z' : Stand) : Type 0 where
+  pub allowed : z.count < limit
+  pub few : length (q ++ rest) ≤ 1024
+  pub stand : z' ≡ replaced_to z (length (q ++ rest)) (deepest q)
+  pub tokens : stacked s b l' (length (q ++ rest)) ≡ q ++ rest
+
+-- or 18 or 17 refuses it
+abbrev pub PutBy : Turn → List ℕ → List ℕ → List (List ℕ) → List Pending → List Pending → ℕ → Stand → Type 0
+PutBy (turn.On z') s b l' q rest limit z = Puts s b l' q rest limit z z'
+PutBy (turn.Ended k p) s b l' q rest limit z =
+    (o : Outer) (ms : List Macro) (r : Room) → onward (left_of limit z) o ms q rest r ≡ ends k p r
+
+-- a usage was replaced by what g says
+pub record Replaces (s b : List ℕ) (l' : List (List ℕ)) (g : Got) (limit : ℕ) (z z' : Stand) : Type 0 where
+  pub new : List Pending
+  pub rest : List Pending
+  pub shape : g ≡ got new rest
+  pub puts : Puts s b l' new rest limit z z'
+
+abbrev pub ReplacedBy : Turn → List ℕ → List ℕ → List (List ℕ) → Got → List Macro → ℕ → Stand → Type 0
+ReplacedBy (turn.On z') s b l' g ms limit z = Replaces s b l' g limit z z'
+ReplacedBy (turn.Ended k p) s b l' g ms limit z =
+    (o : Outer) (r : Room) → on_got (onward (left_of limit z) o ms) r g ≡ ends k p r
 
 -- the rest of the expansion at a stand
 abbrev pub rest_of : Outer → List Macro → List ℕ → List ℕ → List (List ℕ) → ℕ → List ℕ → List ℕ → Stand → Expansion

@@ -2,20 +2,36 @@
 // none is left.
 #![tactic(auto)]
 
+mod tokens;
+pub mod usages;
+
 ghost use Rattle.std.specs.Prelude.{◌≡◌, List, ◌<◌, ◌≤◌, length};
 ghost use Rattle.definition.specs.Definitions.{Macro};
-ghost use Rattle.finding.specs.Buffers.{Holds};
-ghost use Rattle.usages.specs.Standing.{Lends};
-ghost use Rattle.spelling.specs.Lent.{outer, Within};
-ghost use Rattle.expand.specs.Standing.{written_to, Stands, SteppedBy, rest_of, stopped_at, Ends, Expands};
+ghost use Rattle.store.specs.Buffers.{Holds};
+ghost use Rattle.expand.specs.Standing.{outer, Lends, Within, written_to, Stands, SteppedBy, rest_of, stopped_at, Ends, Expands};
 
 use arguments::Sought;
-use called::{Called, Stand, is_usage, resolve};
 use packed::read;
 use pending::{name_of, pend_of};
-use spelling::write_token;
-use usages::{Turn, accept, put_first, replace_top};
+use tokens::write_token;
+use usages::{Called, accept, is_usage, put_first, replace_top, resolve};
 use writing::{Spot, Wrote};
+
+// Where an expansion stands: how many tokens are pending, the replacements and the deepest set so far, where writing stands.
+#[derive(Clone, Copy)]
+pub struct Stand {
+    pub depth: usize,
+    pub count: usize,
+    pub deepest: usize,
+    pub spot: Spot,
+}
+
+// The next stand, or the end: refused, or 0, with the place of 2 to 6.
+#[derive(Clone, Copy)]
+pub enum Turn {
+    On(Stand),
+    Ended(usize, usize),
+}
 
 // The answer: the refusal, or 0, with the place of 2 to 6; where the file goes on behind the usage and its list; the
 // replacements and the deepest set; where writing stands.

@@ -1,24 +1,26 @@
 -- A run from its start: the first stage can go on, and what its end leaves is the outcome of the hand-over.
 -- Assumes nothing.
 use Prim.Native.Nat.{ℕ, max, ◌+◌, ◌≤◌}
-use mathlib.Core.Bool.{true, false}
+use mathlib.Core.Bool.{true, false, cond}
 use mathlib.Core.List.{List, [], ◌++◌}
 use mathlib.Core.Path.{◌≡◌, refl, sym, ap, subst, ◌∙◌}
 use native.Mathlib.Nat.{sub-zero, zero-add}
 use native.Mathlib.Omega.{arith}
-use lib.ListN.{length, drop, get_or, replicate, length-replicate}
-use lib.Seq.{sets, sets-eq}
+use borrow.Author.Tests.{eq-eqb, ne_eqb}
+use lib.Dec.{eqb}
+use lib.ListN.{length, drop, get_or, replicate, length-replicate, get_or-eq_default}
+use lib.Seq.{sets, sets-eq, take-nil}
 use Rattle.lex.proofs.Tests.{true_false}
 use Rattle.definition.specs.Definitions.{Macro}
-use Rattle.finding.specs.Stores.{encode}
-use Rattle.finding.specs.Buffers.{Holds}
-use Rattle.starts.specs.Starting.{started, Starts}
+use Rattle.store.specs.Stores.{encode}
+use Rattle.store.specs.Buffers.{Holds}
+use Rattle.macros.specs.Starting.{started, Starts}
 use Rattle.macros.proofs.Kept.{started_sound}
 use Rattle.writing.specs.Written.{text_of, map_of}
 use Rattle.writing.proofs.Laws.{text_length}
-use Rattle.places.specs.Places.{place_of}
+use Rattle.places.specs.Places.{newlines, line_at, place_of}
 use Rattle.blocks.specs.Stacks.{open_in}
-use Rattle.cursor.specs.Cursors.{opening}
+use Rattle.copying.specs.Cursors.{opening}
 use Rattle.copying.specs.Copying.{Reads}
 use Rattle.handover.specs.Entries.{blank_entry, body_of}
 use Rattle.handover.specs.Sizes.{HandOver, Rooms, is_sound}
@@ -26,14 +28,28 @@ use Rattle.handover.proofs.Laws.{entries_sound, entry-body, Sound, sound_facts}
 use Rattle.turns.specs.States.{Context, State}
 use Rattle.turns.specs.Runs.{Run, run_from, measure, context_of, start_of, Outcome, line_of, outcome_of, not_taken, ran_over, flattened}
 use Rattle.turns.proofs.Rooms.{Fits, run_fits}
-use Rattle.stage.specs.declared.Stage.{Stage}
+use Rattle.steps.specs.declared.stage.Stage.{Stage}
 use Rattle.running.specs.declared.Last.{Last}
-use Rattle.stage.specs.Standing.{Bufs, bufs, outer_frames, state_of, Fixed}
+use Rattle.flatten.specs.declared.Flattened.{Flattened}
+use Rattle.steps.specs.Standing.{Bufs, bufs, outer_frames, state_of, Fixed}
 use Rattle.dispatch.specs.Going.{Going}
 use Rattle.running.specs.Ending.{Final, finish, ended, Finishes}
-use Rattle.flattened.specs.declared.Flattened.{Flattened}
-use Rattle.flattened.specs.Answers.{answer_of, answer_from, start_stage}
-use Rattle.flatten.specs.Flattening.{Lent, lent, rooms_of, hand_over, over, Startable, Leaves, HoldsMacros, RunLeaves, Flattens}
+use Rattle.flatten.specs.Flattening.{Lent, lent, rooms_of, hand_over, over, answer_of, answer_from, start_stage, Startable, Leaves, HoldsMacros, RunLeaves, Flattens}
+
+-- ---- the line of a refusal
+
+pub line_none : (n k : ℕ) → n ≡ 0 → 0 ≡ cond (eqb n 0) 0 k
+line_none n k h = rw (eq-eqb n 0 h)
+
+pub line_some : (n k r : ℕ) → (n ≡ 0 → ⊥) → r ≡ k → r ≡ cond (eqb n 0) 0 k
+line_some n k r h e = rw (ne_eqb n 0 h) e
+
+-- a file that there is not has the one line
+pub line_past : (s : List ℕ) (t : List (List ℕ)) (f b : ℕ) → length t ≤ f → 1 ≡ line_at (body_of s t f) b
+unfolding line_at newlines
+line_past s t f b h =
+    let e : get_or t f blank_entry ≡ blank_entry = get_or-eq_default t blank_entry h in
+    rw (e, take-nil b)
 
 -- ---- the start
 

@@ -1,13 +1,17 @@
 -- Flatten's contract: the outcome of a hand-over in lent buffers.
 -- Assumes nothing.
 use Rattle.std.specs.Prelude.{ℕ, ◌<◌, ◌≤◌, ◌≡◌, true, false, List, ◌++◌, length, drop}
-use Rattle.entries.specs.Entries.{Stored}
-use Rattle.finding.specs.Buffers.{Holds}
+use Rattle.definition.specs.Definitions.{Macro}
+use Rattle.store.specs.Stores.{encode}
+use Rattle.store.specs.Buffers.{Holds, Stored}
+use Rattle.settings.specs.Settings.{reset_to}
+use Rattle.copying.specs.Cursors.{opening}
 use Rattle.handover.specs.Entries.{all_entries}
 use Rattle.handover.specs.Sizes.{HandOver, Rooms, is_sound}
-use Rattle.turns.specs.Runs.{Outcome, ran_over, flattened}
-use Rattle.flattened.specs.declared.Flattened.{Flattened}
-use Rattle.flattened.specs.Answers.{answer_of}
+use Rattle.turns.specs.Runs.{Outcome, line_of, ran_over, flattened}
+use Rattle.steps.specs.declared.stage.Stage.{Stage}
+use Rattle.running.specs.declared.Last.{Last}
+use Rattle.flatten.specs.declared.Flattened.{Flattened}
 
 -- the buffers that are lent to flatten
 pub record Lent : Type 0 where
@@ -30,6 +34,55 @@ hand_over s t root starts set limit =
 -- "bytes past are as lent"
 abbrev pub over : List ℕ → List ℕ → List ℕ
 over w l = w ++ drop (length w) l
+
+-- the answer to an outcome: its numbers, and the lengths of what stands in the lent text, map, records and macro bytes
+abbrev pub answer_of : Outcome → Flattened
+answer_of o =
+    record {
+      number = o.number;
+      file = o.file;
+      line = o.line;
+      byte = o.byte;
+      written = length o.text;
+      lines = length o.map;
+      macros = length o.macros;
+      stored = length (encode o.macros);
+      count = o.count;
+      deepest = o.depth;
+      settings = o.settings;
+    }
+
+-- .. from where a run ended with the macros ms
+abbrev pub answer_from : List ℕ → List (List ℕ) → List Macro → Last → Flattened
+answer_from s t ms l =
+    record {
+      number = l.number;
+      file = l.file;
+      line = line_of s t l.number l.file l.byte;
+      byte = l.byte;
+      written = l.stage.spot.written;
+      lines = l.stage.spot.lines;
+      macros = l.stage.macros;
+      stored = length (encode ms);
+      count = l.stage.count;
+      deepest = l.stage.deepest;
+      settings = l.stage.settings;
+    }
+
+-- the first stage, with n macros
+abbrev pub start_stage : ℕ → ℕ → ℕ → Stage
+start_stage root set n =
+    record {
+      depth = 1;
+      file = root;
+      cursor = opening;
+      blocks = record { «open» = 0; taken = true };
+      macros = n;
+      settings = reset_to set;
+      spot = record { written = 0; lines = 0; fresh = true };
+      count = 0;
+      deepest = 0;
+    }
 
 -- a hand-over that a run can begin with, its start macros stored
 pub record Startable (store : List ℕ) (table : List (List ℕ)) (root : ℕ) (bytes : List ℕ) (records : List (List ℕ)) (macros : ℕ) (name form : List ℕ) : Type 0 where

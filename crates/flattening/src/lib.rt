@@ -1,7 +1,7 @@
 // The files flattened, with those that are found on the way.
 #![tactic(auto)]
 
-use flattened::Flattened;
+use flatten::Flattened;
 use own::Own;
 use plan::{ADDED, BROKEN, ENTRY, FILES, LIMIT, SET, STARTS, get, put};
 use search::{Search, find_missing};

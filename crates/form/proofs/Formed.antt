@@ -9,15 +9,13 @@ use mathlib.Core.Path.{◌≡◌, refl, ap, sym, ◌∙◌, subst}
 use native.Mathlib.Omega.{arith}
 use lib.ListN.{length}
 use Rattle.storing.specs.Stored.{stored}
-use Rattle.formals.specs.declared.Formal.{Formal}
+use Rattle.definition.specs.declared.Formal.{Formal}
 use Rattle.definition.specs.Definitions.{Parameter, Macro, macro, parameter_of, parameters_of}
-use Rattle.append.specs.Sized.{two, default_form}
-use Rattle.form.specs.Forms.{default_by, parameter_form, parameter_forms, list_form, head_form, form_of, text_start}
+use Rattle.form.specs.Forms.{two, default_by, default_form, parameter_form, parameter_forms, list_form, head_form, form_of, text_start}
 use Rattle.form.specs.declared.FormWritten.{FormWritten}
 use Rattle.form.specs.declared.FormWritten.TheVariants as written
-use Rattle.append.specs.Put.{Put}
-use Rattle.form.specs.Putting.{FormAt, FormBy}
-use Rattle.append.proofs.Pushing.{put_then}
+use Rattle.form.specs.Putting.{Put, FormAt, FormBy}
+use Rattle.form.proofs.Pushing.{put_then}
 
 -- a formal's default, or none
 module _ (s : List ℕ) (f : Formal) where

@@ -1,3 +1,4 @@
+pub mod Pushing
 pub mod Formed
 pub mod Walking
 pub mod Working

@@ -10,14 +10,14 @@ use lib.ListN.{length}
 use borrow.Author.Tests.{ltb-true, ltb-false}
 use Rattle.text.specs.Bytes.{part}
 use Rattle.storing.specs.Stored.{stored}
-use Rattle.formals.specs.Extents.{extent_at, bars_of}
-use Rattle.formals.specs.Heads.{head_at}
-use Rattle.formals.specs.Lists.{Formals, ill, whole, shape_by}
-use Rattle.definition.specs.Definitions.{Macro, macro, Definition, barred, bad, good, parameters_of, is_bad, text_at, judged_by, defined_by, definition_at}
-use Rattle.formals.specs.declared.Extent.{Extent}
-use Rattle.formals.specs.declared.Head.{Head}
-use Rattle.formals.specs.declared.Formal.{Formal}
-use Rattle.formals.proofs.Heading.{head_empty}
+use Rattle.definition.specs.Extents.{extent_at, bars_of}
+use Rattle.definition.specs.Heads.{head_at}
+use Rattle.definition.specs.Lists.{Formals, ill, whole}
+use Rattle.definition.specs.Definitions.{Macro, macro, Definition, barred, bad, good, parameters_of, is_bad, shape_by, text_at, judged_by, defined_by, definition_at}
+use Rattle.definition.specs.declared.Extent.{Extent}
+use Rattle.definition.specs.declared.Head.{Head}
+use Rattle.definition.specs.declared.Formal.{Formal}
+use Rattle.definition.proofs.Heading.{head_empty}
 use Rattle.definition.proofs.Defining.{bad_name, bad_count}
 
 -- a number is none, or some

@@ -11,16 +11,16 @@ use Rattle.brackets.specs.Stacks.{Settled}
 use Rattle.brackets.proofs.Settling.{settled_full}
 use Rattle.storing.specs.declared.Stored.{Stored}
 use Rattle.storing.specs.declared.Stored.TheVariants.{Upto, Short}
-use Rattle.formals.specs.Lists.{formal_at, whole, formals_at}
+use Rattle.definition.specs.Lists.{formal_at, whole, formals_at}
 use Rattle.definition.specs.Definitions.{parameter_of}
-use Rattle.formals.specs.declared.Formal.{Formal}
-use Rattle.formals.specs.declared.FormalRead.{FormalRead}
-use Rattle.formals.specs.declared.FormalRead.TheVariants as formal
-use Rattle.formals.proofs.Formals.{Rest, formals_rest}
-use Rattle.formals.proofs.Scanning.{Scanning, scan_first, scan_next, none_behind, some_behind}
+use Rattle.definition.specs.declared.Formal.{Formal}
+use Rattle.definition.specs.declared.FormalRead.{FormalRead}
+use Rattle.definition.specs.declared.FormalRead.TheVariants as formal
+use Rattle.definition.proofs.Formals.{Rest, formals_rest}
+use Rattle.definition.proofs.Scanning.{Scanning, scan_first, scan_next, none_behind, some_behind}
 use Rattle.form.specs.Forms.{parameter_form}
-use Rattle.append.specs.Put.{Put, PutBy}
-use Rattle.append.proofs.Pushing.{put_so, put_short, Pushing, pushing_first, pushing_end, pushing_next, pushing_short}
+use Rattle.form.specs.Putting.{Put, PutBy}
+use Rattle.form.proofs.Pushing.{put_so, put_short, Pushing, pushing_first, pushing_end, pushing_next, pushing_short}
 use Rattle.form.proofs.Formed.{forms_of, forms_none, forms_next}
 
 -- of the whole list fs: the formals from i on, whose forms are still to be put

@@ -1,12 +1,25 @@
--- The stored form of a macro, written to the front of a buffer.
+-- Bytes written behind the first n of a buffer, all of them or none.
 -- Assumes nothing.
-use Rattle.std.specs.Prelude.{ℕ, ◌<◌, ◌≤◌, ◌≡◌, ◌⊎◌, List, length, take}
-use Rattle.formals.specs.Lists.{Formals, whole}
+use Rattle.std.specs.Prelude.{ℕ, ◌+◌, ◌<◌, ◌≤◌, ◌≡◌, ◌⊎◌, List, ◌++◌, length, take}
+use Rattle.storing.specs.declared.Stored.{Stored}
+use Rattle.storing.specs.declared.Stored.TheVariants.{Upto, Short}
+use Rattle.definition.specs.Lists.{Formals, whole}
 use Rattle.definition.specs.Definitions.{Macro}
-use Rattle.formals.specs.declared.Formal.{Formal}
+use Rattle.definition.specs.declared.Formal.{Formal}
 use Rattle.form.specs.Forms.{form_of, text_start}
 use Rattle.form.specs.declared.FormWritten.{FormWritten}
 use Rattle.form.specs.declared.FormWritten.TheVariants as written
+
+-- the buffer o became o', ys put behind its first n, which are m then; what stands behind those is left open
+pub record Put (o o' : List ℕ) (n m : ℕ) (ys : List ℕ) : Type 0 where
+  pub count : m ≡ n + length ys
+  pub fits : m ≤ length o
+  pub bytes : take m o' ≡ take n o ++ ys
+
+-- ys were put, or there is no room for them, or something else lacks
+abbrev pub PutBy : Stored → Type 0 → List ℕ → List ℕ → ℕ → List ℕ → Type 0
+PutBy (Upto m) lack o o' n ys = Put o o' n m ys
+PutBy Short lack o o' n ys = lack ⊎ (length o < n + length ys)
 
 -- g are so many formals, and the text begins at x
 pub record Listed (g : Formals) (count x : ℕ) : Type 0 where

@@ -1,19 +1,18 @@
 // Writes the stored form of a macro (document 01, "Stored form") from its definition.
 #![tactic(auto)]
 
-ghost use Rattle.std.specs.Prelude.{◌≡◌, List, ℕ, ◌≤◌, ◌<◌, length};
+ghost use Rattle.std.specs.Prelude.{◌≡◌, List, [], ◌∷◌, ◌++◌, ℕ, ◌≤◌, ◌<◌, length};
+ghost use Rattle.std.proofs.Math.Option.{some};
 ghost use Rattle.text.specs.Bytes.{part};
 ghost use Rattle.storing.specs.Stored.{stored};
-ghost use Rattle.formals.specs.Lists.{formals_at, whole, shape_by};
-ghost use Rattle.definition.specs.Definitions.{Macro, macro, good, parameter_of, parameters_of, definition_at};
-ghost use Rattle.append.specs.Sized.{default_form};
-ghost use Rattle.form.specs.Forms.{list_form, default_by, parameter_form, parameter_forms, head_form};
-ghost use Rattle.append.specs.Put.{PutBy};
-ghost use Rattle.form.specs.Putting.{Listed, FormBy};
+ghost use Rattle.definition.specs.Lists.{formals_at, whole};
+ghost use Rattle.definition.specs.Definitions.{Macro, macro, good, parameter_of, parameters_of, shape_by, definition_at};
+ghost use Rattle.form.specs.Forms.{two, sized, list_form, default_by, default_form, parameter_form, parameter_forms, head_form};
+ghost use Rattle.form.specs.Putting.{Listed, PutBy, FormBy};
 
-use append::{push_byte, push_part, push_sized, push_stored, push_two};
-use formals::{Formal, FormalRead, Head, ListRead, extent_at, formal_at, head_at, shape_of};
+use definition::{Formal, FormalRead, Head, ListRead, extent_at, formal_at, head_at, shape_of};
 use storing::{Stored, store_text};
+use text::part_of;
 
 // A stored form's length and where its text starts; or a buffer is too short; or the definition has no whole head.
 #[derive(Clone, Copy)]
@@ -21,6 +20,75 @@ pub enum FormWritten {
     Upto(usize, usize),
     Short,
     IllFormed,
+}
+
+fn push_byte(out: &mut [u8], n: usize, b: u8) -> Stored
+    requires { n ≤ length out.old }
+    ensures { PutBy result ⊥ out.old out.new n (b ∷ []) }
+{
+    if out.len() <= n {
+        return Stored::Short;
+    }
+    out[n] = b;
+    Stored::Upto(n + 1)
+}
+
+// Two bytes of length, low first.
+fn push_two(out: &mut [u8], n: usize, size: usize) -> Stored
+    requires { n ≤ length out.old }
+    ensures { PutBy result ⊥ out.old out.new n (two size) }
+{
+    let r = push_byte(out, n, (size % 256) as u8);
+    match r {
+        Stored::Upto(m) => push_byte(out, m, (size / 256 % 256) as u8),
+        Stored::Short => Stored::Short,
+    }
+}
+
+// The bytes of `s` from `at` to before `end`.
+fn push_part(s: &[u8], at: usize, end: usize, out: &mut [u8], n: usize) -> Stored
+    requires { n ≤ length out.old }
+    ensures { PutBy result ⊥ out.old out.new n (part s.now at end) }
+{
+    let mut i = at;
+    let mut k = n;
+    while i < end {
+        if s.len() <= i {
+            return Stored::Upto(k);
+        }
+        if out.len() <= k {
+            return Stored::Short;
+        }
+        out[k] = s[i];
+        k += 1;
+        i += 1;
+    }
+    Stored::Upto(k)
+}
+
+// Two bytes of length, and the bytes of `s` from `at` to before `end`.
+fn push_sized(s: &[u8], at: usize, end: usize, out: &mut [u8], n: usize) -> Stored
+    requires { n ≤ length out.old }
+    ensures { PutBy result ⊥ out.old out.new n (sized (part s.now at end)) }
+{
+    let p = part_of(s, at, end);
+    let r = push_two(out, n, p.len());
+    match r {
+        Stored::Upto(m) => push_part(s, at, end, out, m),
+        Stored::Short => Stored::Short,
+    }
+}
+
+// The mark 1, and the default that is stored in the first `k` work bytes.
+fn push_stored(work: &[u8], k: usize, out: &mut [u8], n: usize) -> Stored
+    requires { n ≤ length out.old }
+    ensures { PutBy result ⊥ out.old out.new n (default_form (some (part work.now 0 k))) }
+{
+    let r = push_byte(out, n, 1);
+    match r {
+        Stored::Upto(m) => push_sized(work, 0, k, out, m),
+        Stored::Short => Stored::Short,
+    }
 }
 
 // A formal's mark and default.

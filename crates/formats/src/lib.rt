@@ -5,9 +5,16 @@
 ghost use Rattle.std.specs.Prelude.{◌<◌, ◌≤◌, length};
 
 use classify::Classified;
-use libc::STDOUT_FILENO;
 use pass::Answer;
+use std::rt::Env;
 use text::{part_of, peek};
+
+// The file descriptors that a program is started with.
+pub const STDIN_FILENO: i32 = 0;
+
+pub const STDOUT_FILENO: i32 = 1;
+
+pub const STDERR_FILENO: i32 = 2;
 
 pub fn least(a: usize, b: usize) -> usize
     ensures { (result ≤ a) × (result ≤ b) }
@@ -158,6 +165,16 @@ fn four_of(w: &[u8]) -> usize
         + wide(peek(w, 1)) * 256
         + wide(peek(w, 2)) * 65536
         + wide(peek(w, 3)) * 16777216
+}
+
+// Puts argument `i` at the start of `word`; its length, or 0 where it is missing or longer.
+pub fn read_argument(rt: &impl Env, i: usize, word: &mut [u8]) -> usize
+    ensures { result ≤ length word.new }
+{
+    match rt.arg(i, word) {
+        Ok(n) => n,
+        Err(_) => 0,
+    }
 }
 
 // The number at `at`: four bytes, low first, those past the end 0.

@@ -16,14 +16,13 @@ use Rattle.lex.proofs.Tests.{and_left, and_right}
 use Rattle.definition.specs.Definitions.{Macro}
 use Rattle.form.specs.Forms.{form_of, text_start}
 use Rattle.packed.specs.Records.{blank_record, record_of}
-use Rattle.finding.specs.Stores.{macro_name, macro_text, Below, Ascending, encode}
-use Rattle.finding.specs.Buffers.{row_of, rows_from, padded}
-use Rattle.finding.proofs.Entries.{bytes_fit}
+use Rattle.store.specs.Stores.{macro_name, macro_text, Below, Ascending, encode}
+use Rattle.store.specs.Buffers.{row_of, rows_from, padded}
+use Rattle.store.proofs.Entries.{bytes_fit}
 use Rattle.genuine.specs.Fitness.{fit_macro, all_fit}
-use Rattle.checks.specs.Checks.{is_less, is_four, is_blank, all_zero, all_blank, ends_there}
-use Rattle.genuine.specs.Layout.{name_in, end_of, entry_fits, left_from, left_in}
+use Rattle.genuine.specs.Layout.{is_less, name_in, end_of, entry_fits, is_four, is_blank, all_zero, all_blank, ends_there, left_from, left_in}
 use Rattle.genuine.specs.Leaving.{LeftBy}
-use Rattle.checks.specs.declared.Checked.TheVariants.{Left, Foreign}
+use Rattle.genuine.specs.declared.Checked.TheVariants.{Left, Foreign}
 use Rattle.genuine.proofs.Lying.{Lies, lies_none, lies_front, lies_back, lies_both}
 use Rattle.genuine.proofs.Blanks.{zeros, all-zero, blanks, all-blank, left_none, Ended, ended}
 use Rattle.genuine.proofs.Rows.{less, named, below_none, not_blank, row_end, row_name, row_fits, Row, row_read}

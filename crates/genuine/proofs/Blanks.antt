@@ -10,9 +10,8 @@ use lib.Dec.{eqb}
 use lib.ListN.{length, drop, get_or, replicate}
 use Rattle.lex.proofs.Tests.{and_left, and_right}
 use Rattle.packed.specs.Records.{blank_record, record_of}
-use Rattle.checks.specs.Checks.{all_zero, is_four, is_blank, all_blank, ends_there}
-use Rattle.genuine.specs.Layout.{left_from}
-use Rattle.checks.specs.declared.Checked.TheVariants.{Left, Foreign}
+use Rattle.genuine.specs.Layout.{all_zero, is_four, is_blank, all_blank, ends_there, left_from}
+use Rattle.genuine.specs.declared.Checked.TheVariants.{Left, Foreign}
 
 pub zeros : (k : ℕ) → all_zero (replicate k 0) ≡ true
 unfolding all_zero

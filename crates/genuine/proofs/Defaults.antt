@@ -22,8 +22,7 @@ use Rattle.brackets.specs.Steps.{Step, on, done, torn, step_of}
 use Rattle.storing.specs.Stored.{piece, pieces}
 use Rattle.storing.specs.Graves.{is_free, grave_in}
 use Rattle.storing.proofs.Reading.{define_next}
-use Rattle.reader_state.specs.States.{is_open}
-use Rattle.afresh.specs.Unfit.{is_accented, held_by, unless, is_unfit, unfit_held, unfit_default}
+use Rattle.afresh.specs.Unfit.{is_accented, held_by, is_open, unless, is_unfit, unfit_held, unfit_default}
 use Rattle.judging.proofs.Shielding.{part_drop}
 use Rattle.genuine.specs.Spelling.{spelled}
 use Rattle.genuine.proofs.Tests.{or_left, or_right, and_false, and_first, and_second, passed}

@@ -17,8 +17,8 @@ use Rattle.lex.proofs.Progress.{token-at, token_ends, token_within}
 use Rattle.lex.proofs.Listing.{tokens_out}
 use Rattle.storing.proofs.Reading.{define_next}
 use Rattle.afresh.specs.Unfit.{unfit_in, unfit_text}
-use Rattle.formals.specs.Extents.{mark_of, extent_in, bars_of}
-use Rattle.formals.specs.declared.Extent.{Extent}
+use Rattle.definition.specs.Extents.{mark_of, extent_in, bars_of}
+use Rattle.definition.specs.declared.Extent.{Extent}
 use Rattle.genuine.specs.Spelling.{spelled}
 use Rattle.genuine.proofs.Spelled.{Unmarked}
 use Rattle.genuine.proofs.Aligning.{nothing, Aligned, byte_within, newline_within, newline_slash, newline_next, newline_past}

@@ -15,14 +15,14 @@ use Rattle.storing.specs.Stored.{stored}
 use Rattle.storing.specs.Graves.{has_grave}
 use Rattle.afresh.specs.Judging.{bad_text, bad_default}
 use Rattle.judging.proofs.NothingMore.{nothing_more}
-use Rattle.formals.specs.Extents.{extent_at, bars_of, Free}
-use Rattle.formals.specs.Heads.{head_at}
-use Rattle.formals.specs.Lists.{Formals, ill, whole, formals_at, shape_by}
-use Rattle.definition.specs.Definitions.{Macro, macro, formal_name, parameters_of, bad_formal, named, bad_among, bad_formals, text_at, Definition, barred, bad, good, is_bad, judged_by, definition_at}
-use Rattle.formals.specs.Answers.{FreeDefault}
-use Rattle.formals.specs.declared.Formal.{Formal}
-use Rattle.formals.specs.declared.Head.{Head}
-use Rattle.formals.proofs.Onward.{AllFree, ListFree, unbarred_free, head_free, shape_free}
+use Rattle.definition.specs.Extents.{extent_at, bars_of, Free}
+use Rattle.definition.specs.Heads.{head_at}
+use Rattle.definition.specs.Lists.{Formals, ill, whole, formals_at}
+use Rattle.definition.specs.Definitions.{Macro, macro, formal_name, parameters_of, bad_formal, named, bad_among, bad_formals, shape_by, text_at, Definition, barred, bad, good, is_bad, judged_by, definition_at}
+use Rattle.definition.specs.Answers.{FreeDefault}
+use Rattle.definition.specs.declared.Formal.{Formal}
+use Rattle.definition.specs.declared.Head.{Head}
+use Rattle.definition.proofs.Onward.{AllFree, ListFree, unbarred_free, head_free, shape_free}
 use Rattle.definition.proofs.Shielded.{default_more}
 use Rattle.genuine.specs.Fitness.{fit_name, fit_stored, fit_default, is_named, fit_parameters, fit_macro}
 use Rattle.genuine.proofs.Tests.{or_left, or_right, passed}

@@ -13,8 +13,7 @@ use Rattle.text.specs.Bytes.{part, two_at}
 use Rattle.text.proofs.Matching.{part_none}
 use Rattle.lex.proofs.Tests.{and_left, and_right}
 use Rattle.definition.specs.Definitions.{Parameter, parameter}
-use Rattle.append.specs.Sized.{two, sized}
-use Rattle.form.specs.Forms.{parameter_form, parameter_forms}
+use Rattle.form.specs.Forms.{two, sized, parameter_form, parameter_forms}
 use Rattle.genuine.specs.Fitness.{fit_formal, fit_stored, fit_default, is_named, fit_parameters}
 use Rattle.genuine.specs.Layout.{mark_at, formal_name, formal_end, formal_default, default_fits, named_from, formal_fits, formals_fit}
 use Rattle.genuine.proofs.Lying.{Lies, lies_none, lies_front, lies_back, lies_both, lies_part, part_length, part_lies, lies_byte, byte_lies, lies_two, sized_lies}

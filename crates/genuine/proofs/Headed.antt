@@ -9,10 +9,10 @@ use lib.ListN.{length, drop}
 use Rattle.text.specs.Bytes.{bytes, part}
 use Rattle.lex.specs.Tokens.{in_definition, White, Escaped, Byte, plain, tokens}
 use Rattle.storing.specs.Stored.{pieces, trim_left}
-use Rattle.formals.specs.Heads.{next_at, open_at, head, head_at}
-use Rattle.formals.specs.Lists.{whole, shape_by}
-use Rattle.definition.specs.Definitions.{Parameter, macro, parameters_of, bad_formals}
-use Rattle.formals.specs.declared.Formal.{Formal}
+use Rattle.definition.specs.Heads.{next_at, open_at, head, head_at}
+use Rattle.definition.specs.Lists.{whole}
+use Rattle.definition.specs.Definitions.{Parameter, macro, parameters_of, bad_formals, shape_by}
+use Rattle.definition.specs.declared.Formal.{Formal}
 use Rattle.genuine.specs.Fitness.{fit_name, fit_parameters}
 use Rattle.genuine.specs.Spelling.{spelled, spelled_from, definition_of, word_end}
 use Rattle.genuine.proofs.Standing.{Stands, stands, past, front, Reads, reads_gap, reads_stop, white_reads, space_pieces, opener, lone_reads, word, escaped_reads}

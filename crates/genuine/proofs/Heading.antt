@@ -9,12 +9,12 @@ use Rattle.text.specs.Bytes.{part}
 use Rattle.lex.specs.Tokens.{in_definition, Name, Escaped, is, is_byte, name_of, token_at}
 use Rattle.lex.specs.declared.Token.{Token}
 use Rattle.lex.proofs.Tests.{by_test, true_false}
-use Rattle.formals.specs.Extents.{Free}
-use Rattle.formals.specs.Heads.{gap_end, next_at, open_at, head_by, head_at}
-use Rattle.formals.specs.declared.Head.{Head}
-use Rattle.formals.proofs.Formals.{kind_inside}
-use Rattle.formals.proofs.Seeing.{token_seen}
-use Rattle.formals.proofs.Onward.{kind_past, gap_past}
+use Rattle.definition.specs.Extents.{Free}
+use Rattle.definition.specs.Heads.{gap_end, next_at, open_at, head_by, head_at}
+use Rattle.definition.specs.declared.Head.{Head}
+use Rattle.definition.proofs.Formals.{kind_inside}
+use Rattle.definition.proofs.Seeing.{token_seen}
+use Rattle.definition.proofs.Onward.{kind_past, gap_past}
 use Rattle.genuine.proofs.Naming.{Solid, formal_solid, word_fit, slanted_fit}
 
 module _ (s : List ℕ) where

@@ -14,8 +14,7 @@ use Rattle.brackets.specs.Steps.{Step, on, done, torn}
 use Rattle.storing.specs.Stored.{keep, trim_left, trim_right}
 use Rattle.afresh.specs.Judging.{is_barred, barred_grave, bad_in, bad_text, barred_in, bad_default}
 use Rattle.afresh.specs.Unfit.{is_accented, held_by, unless, is_stray, unfit_in, unfit_text, unfit_held, unfit_default, is_unfit_as}
-use Rattle.checks.specs.Checks.{is_trimmed}
-use Rattle.genuine.specs.Fitness.{fit_stored}
+use Rattle.genuine.specs.Fitness.{is_trimmed, fit_stored}
 
 -- what fits as a stored text or default is trimmed and not unfit
 pub record Kept (text : Bool) (w : List ℕ) : Type 0 where

@@ -19,7 +19,9 @@ pub mod Naming
 pub mod Onward
 pub mod Heading
 pub mod Fitting
+pub mod Testing
 pub mod TestingNames
+pub mod Trimmed
 pub mod Roomy
 pub mod TestingFormals
 pub mod TestingEntries

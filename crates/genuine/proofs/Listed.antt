@@ -20,13 +20,13 @@ use Rattle.storing.specs.Stored.{pieces, stored}
 use Rattle.storing.specs.Graves.{grave_in, has_grave}
 use Rattle.storing.proofs.Joining.{pieces_past}
 use Rattle.storing.proofs.Accents.{grave_past}
-use Rattle.formals.specs.Extents.{extent_in}
-use Rattle.formals.specs.Lists.{step_at, default_in, default_end, formal_at, whole, also, formals_at}
+use Rattle.definition.specs.Extents.{extent_in}
+use Rattle.definition.specs.Lists.{step_at, default_in, default_end, formal_at, whole, also, formals_at}
 use Rattle.definition.specs.Definitions.{Parameter, parameter, formal_name, parameter_of, parameters_of, bad_formal, named, bad_formals}
-use Rattle.formals.specs.declared.Ending.TheVariants as ending
-use Rattle.formals.specs.declared.Formal.{Formal}
-use Rattle.formals.specs.declared.FormalRead.TheVariants as formal
-use Rattle.formals.proofs.Formals.{formals_next, behind_last, behind_more}
+use Rattle.definition.specs.declared.Ending.TheVariants as ending
+use Rattle.definition.specs.declared.Formal.{Formal}
+use Rattle.definition.specs.declared.FormalRead.TheVariants as formal
+use Rattle.definition.proofs.Formals.{formals_next, behind_last, behind_more}
 use Rattle.genuine.specs.Fitness.{fit_formal, fit_stored, fit_default, is_named, fit_parameters}
 use Rattle.genuine.specs.Spelling.{spelled, spelled_parameter, spelled_from}
 use Rattle.genuine.proofs.Parts.{part_one}

@@ -8,7 +8,7 @@ use native.Mathlib.Omega.{arith}
 use lib.ListN.{length, take, drop, get_or, length-append, length-drop}
 use lib.Seq.{take_at, drop_at, take-take, take-add, drop-drop, drop-cons, length-take-le}
 use Rattle.text.specs.Bytes.{part, two_at}
-use Rattle.append.specs.Sized.{two, sized}
+use Rattle.form.specs.Forms.{two, sized}
 
 -- xs lie in b from i on
 pub record Lies (b : List ℕ) (i : ℕ) (xs : List ℕ) : Type 0 where

@@ -18,10 +18,9 @@ use Rattle.lex.specs.declared.Scan.{Scan}
 use Rattle.lex.specs.declared.Token.{Token}
 use Rattle.lex.proofs.Tests.{by_test, and_left, and_right, true_false}
 use Rattle.lex.proofs.Progress.{run_inside, span_inside}
-use Rattle.checks.specs.Checks.{is_short, all_solid, all_run}
-use Rattle.genuine.specs.Fitness.{is_plain, fit_formal}
+use Rattle.genuine.specs.Fitness.{is_short, all_solid, all_run, is_plain, fit_formal}
 use Rattle.genuine.proofs.Tests.{or_right}
-use Rattle.formals.proofs.Seeing.{Seen, one, word, slanted, other}
+use Rattle.definition.proofs.Seeing.{Seen, one, word, slanted, other}
 
 -- either of two tests
 either : {A : Type 0} (a b : Bool) → (a || b) ≡ true → (a ≡ true → A) → (b ≡ true → A) → A

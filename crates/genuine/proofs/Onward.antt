@@ -8,18 +8,18 @@ use lib.ListN.{length}
 use Rattle.lex.specs.Tokens.{in_definition, Name, is, is_byte, name_of}
 use Rattle.lex.specs.declared.Token.{Token}
 use Rattle.lex.proofs.Tests.{by_test}
-use Rattle.formals.specs.Extents.{Free}
-use Rattle.formals.specs.Heads.{gap_end, next_at}
-use Rattle.formals.specs.Lists.{default_end, given_formal, formal_by, formal_at, Formals, ill, whole, also, by_formal, formals_from, formals_at}
+use Rattle.definition.specs.Extents.{Free}
+use Rattle.definition.specs.Heads.{gap_end, next_at}
+use Rattle.definition.specs.Lists.{default_end, given_formal, formal_by, formal_at, Formals, ill, whole, also, by_formal, formals_from, formals_at}
 use Rattle.definition.specs.Definitions.{formal_name}
-use Rattle.formals.specs.declared.Ending.{Ending}
-use Rattle.formals.specs.declared.Ending.TheVariants as ending
-use Rattle.formals.specs.declared.Formal.{Formal}
-use Rattle.formals.specs.declared.FormalRead.{FormalRead}
-use Rattle.formals.specs.declared.FormalRead.TheVariants as formal
-use Rattle.formals.proofs.Formals.{kind_inside}
-use Rattle.formals.proofs.Seeing.{token_seen}
-use Rattle.formals.proofs.Onward.{kind_past, gap_past, read_free}
+use Rattle.definition.specs.declared.Ending.{Ending}
+use Rattle.definition.specs.declared.Ending.TheVariants as ending
+use Rattle.definition.specs.declared.Formal.{Formal}
+use Rattle.definition.specs.declared.FormalRead.{FormalRead}
+use Rattle.definition.specs.declared.FormalRead.TheVariants as formal
+use Rattle.definition.proofs.Formals.{kind_inside}
+use Rattle.definition.proofs.Seeing.{token_seen}
+use Rattle.definition.proofs.Onward.{kind_past, gap_past, read_free}
 use Rattle.genuine.specs.Fitness.{fit_formal}
 use Rattle.genuine.proofs.Naming.{word_fit}
 

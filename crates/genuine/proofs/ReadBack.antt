@@ -14,15 +14,14 @@ use Rattle.lex.proofs.Tests.{and_left, and_right}
 use Rattle.names.specs.Names.{is_directive}
 use Rattle.storing.specs.Stored.{trim_right, stored}
 use Rattle.afresh.specs.Unfit.{unfit_text}
-use Rattle.formals.specs.Extents.{extent_at, bars_of}
-use Rattle.formals.specs.Heads.{head_at}
-use Rattle.formals.specs.Lists.{Formals, whole, shape_by}
-use Rattle.definition.specs.Definitions.{Parameter, Macro, macro, parameters_of, good, is_bad, judged_by, defined_by, definition_at}
-use Rattle.formals.specs.declared.Extent.{Extent}
-use Rattle.formals.specs.declared.Formal.{Formal}
-use Rattle.formals.specs.declared.Head.{Head}
-use Rattle.checks.specs.Checks.{is_short, all_solid}
-use Rattle.genuine.specs.Fitness.{fit_name, fit_parameters, fit_stored, fit_macro}
+use Rattle.definition.specs.Extents.{extent_at, bars_of}
+use Rattle.definition.specs.Heads.{head_at}
+use Rattle.definition.specs.Lists.{Formals, whole}
+use Rattle.definition.specs.Definitions.{Parameter, Macro, macro, parameters_of, shape_by, good, is_bad, judged_by, defined_by, definition_at}
+use Rattle.definition.specs.declared.Extent.{Extent}
+use Rattle.definition.specs.declared.Formal.{Formal}
+use Rattle.definition.specs.declared.Head.{Head}
+use Rattle.genuine.specs.Fitness.{is_short, all_solid, fit_name, fit_parameters, fit_stored, fit_macro}
 use Rattle.genuine.specs.Spelling.{spelled, definition_of, word_end}
 use Rattle.genuine.proofs.Spelled.{TextRead}
 use Rattle.genuine.proofs.Texts.{text_read}

@@ -10,13 +10,12 @@ use lib.ListN.{length}
 use Rattle.text.proofs.Matching.{same_equal}
 use Rattle.brackets.specs.Stacks.{Settled, full, over}
 use Rattle.storing.specs.Stored.{trim_left, trim_right}
-use Rattle.afresh.specs.Verdicts.{verdict_of}
+use Rattle.afresh.specs.Feeding.{verdict_of}
 use Rattle.afresh.specs.Unfit.{is_unfit_as}
 use Rattle.afresh.specs.declared.Verdict.{Verdict}
 use Rattle.afresh.specs.declared.Verdict.TheVariants as verdict
-use Rattle.checks.specs.Checks.{is_trimmed}
-use Rattle.genuine.specs.Fitness.{fit_stored}
-use Rattle.checks.proofs.Testing.{no, yes}
+use Rattle.genuine.specs.Fitness.{is_trimmed, fit_stored}
+use Rattle.genuine.proofs.Testing.{no, yes}
 
 -- the code's answer to a verdict
 abbrev is_good : Verdict → Bool

@@ -18,12 +18,11 @@ use Rattle.lex.proofs.Tests.{and_left, and_right}
 use Rattle.definition.specs.Definitions.{Parameter, Macro, macro}
 use Rattle.form.specs.Forms.{parameter_forms, list_form, head_form, form_of, text_start}
 use Rattle.packed.specs.Records.{record_of}
-use Rattle.finding.specs.Stores.{macro_name}
-use Rattle.finding.specs.Buffers.{row_of}
-use Rattle.finding.proofs.Entries.{form_length, form_name, name_inside, part_sized}
+use Rattle.store.specs.Stores.{macro_name}
+use Rattle.store.specs.Buffers.{row_of}
+use Rattle.store.proofs.Entries.{form_length, form_name, name_inside, part_sized}
 use Rattle.genuine.specs.Fitness.{fit_name, fit_stored, fit_parameters, fit_macro}
-use Rattle.checks.specs.Checks.{is_less}
-use Rattle.genuine.specs.Layout.{formals_fit, name_in, end_of, body_fits, entry_fits}
+use Rattle.genuine.specs.Layout.{formals_fit, is_less, name_in, end_of, body_fits, entry_fits}
 use Rattle.genuine.proofs.Lying.{Lies, lies_front, lies_back, lies_both, lies_part, part_length, part_lies, lies_byte, byte_lies}
 use Rattle.genuine.proofs.Blanks.{four}
 use Rattle.genuine.proofs.Formals.{Formals, formals-fit, formals_read}

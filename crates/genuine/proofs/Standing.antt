@@ -18,10 +18,9 @@ use Rattle.lex.proofs.Tests.{and_left, and_right, true_false}
 use Rattle.names.specs.Names.{is_directive}
 use Rattle.storing.specs.Stored.{piece, pieces}
 use Rattle.storing.proofs.Reading.{define_next}
-use Rattle.formals.specs.Heads.{gap_end, next_at}
-use Rattle.formals.proofs.Reading.{gap_on, gap_stop}
-use Rattle.checks.specs.Checks.{is_short, all_solid, all_run}
-use Rattle.genuine.specs.Fitness.{fit_name, fit_formal}
+use Rattle.definition.specs.Heads.{gap_end, next_at}
+use Rattle.definition.proofs.Reading.{gap_on, gap_stop}
+use Rattle.genuine.specs.Fitness.{is_short, all_solid, all_run, fit_name, fit_formal}
 use Rattle.genuine.proofs.Tests.{or_left, or_right, and_false}
 use Rattle.genuine.proofs.Parts.{head_at, part_one}
 use Rattle.genuine.proofs.Spelled.{no_quote}

@@ -9,7 +9,7 @@ use Rattle.text.proofs.Matching.{same_self}
 use Rattle.lex.specs.Classes.{is_space}
 use Rattle.lex.specs.Tokens.{in_definition, tokens}
 use Rattle.storing.specs.Stored.{keep, trim_left, trim_right, pieces, stored}
-use Rattle.checks.specs.Checks.{is_trimmed}
+use Rattle.genuine.specs.Fitness.{is_trimmed}
 
 -- no white space stands first
 data Led : List ℕ → Type 0 where

@@ -3,17 +3,32 @@
 use Prim.Native.Nat.{ℕ, ◌+◌, ◌-◌, ◌≤◌, ◌<◌}
 use mathlib.Core.Bool.{Bool, true, false, not}
 use mathlib.Core.List.{List}
-use mathlib.Core.Path.{◌≡◌, ap, ◌∙◌}
+use mathlib.Core.Path.{◌≡◌, sym, ap, ◌∙◌}
 use native.Mathlib.Omega.{arith}
 use lib.ListN.{length, drop, get_or, length-take, length-drop}
 use borrow.Author.Tests.{eq-eqb, ne_eqb, le-leb, lt-leb}
 use Rattle.text.specs.Bytes.{part}
 use Rattle.text.specs.Order.{order_of}
+use Rattle.text.specs.declared.Order.{Order}
+use Rattle.text.specs.declared.Order.TheVariants.{Less, Equal, Greater}
 use Rattle.packed.specs.declared.Record.{Record}
 use Rattle.genuine.specs.Fitness.{fit_name, fit_stored}
-use Rattle.checks.specs.Checks.{is_less}
-use Rattle.genuine.specs.Layout.{formals_fit, name_in, body_fits, entry_fits}
-use Rattle.checks.proofs.Testing.{no, yes}
+use Rattle.genuine.specs.Layout.{formals_fit, is_less, name_in, body_fits, entry_fits}
+use Rattle.genuine.proofs.Testing.{no, yes}
+
+-- the answers to an order
+module _ (w v : List ℕ) {o : Order} (e : o ≡ order_of w v) where
+  order_told : is_less o ≡ is_less (order_of w v)
+  order_told = ap is_less e
+
+  pub order_less : o ≡ Less → true ≡ is_less (order_of w v)
+  order_less q = sym (ap is_less q) ∙ order_told
+
+  pub order_equal : o ≡ Equal → false ≡ is_less (order_of w v)
+  order_equal q = sym (ap is_less q) ∙ order_told
+
+  pub order_greater : o ≡ Greater → false ≡ is_less (order_of w v)
+  order_greater q = sym (ap is_less q) ∙ order_told
 
 -- the bytes behind an entry's name
 module _ (b : List ℕ) (r : Record) where

@@ -12,7 +12,7 @@ use borrow.Author.Tests.{eq-eqb, ne_eqb, le-leb, lt-leb, leb-true}
 use Rattle.text.specs.Bytes.{same, part, two_at}
 use Rattle.genuine.specs.Fitness.{fit_formal, fit_stored}
 use Rattle.genuine.specs.Layout.{mark_at, formal_name, formal_end, formal_default, default_fits, named_from, formal_fits, formals_fit}
-use Rattle.checks.proofs.Testing.{no, yes}
+use Rattle.genuine.proofs.Testing.{no, yes}
 
 -- where a formal ends, and its name, by where its mark stands
 module _ (b : List ℕ) (i : ℕ) {m : ℕ} (p : (m ≡ mark_at b i) × (m ≤ i + 65537)) where

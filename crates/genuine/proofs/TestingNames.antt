@@ -11,9 +11,8 @@ use lib.ListN.{length, drop, get_or}
 use borrow.Author.Tests.{lt-ltb, ne_eqb}
 use Rattle.lex.specs.Classes.{is_start}
 use Rattle.names.specs.Names.{directive_of}
-use Rattle.checks.specs.Checks.{is_short, all_solid, all_run}
-use Rattle.genuine.specs.Fitness.{fit_name, is_plain, fit_formal}
-use Rattle.checks.proofs.Testing.{no, yes}
+use Rattle.genuine.specs.Fitness.{is_short, all_solid, fit_name, all_run, is_plain, fit_formal}
+use Rattle.genuine.proofs.Testing.{no, yes}
 
 zero_told : (n : ℕ) → eqb n 0 ≡ not (ltb 0 n)
 zero_told zero = refl

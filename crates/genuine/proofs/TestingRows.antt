@@ -1,4 +1,4 @@
--- The records of a list one after another, as they are read.
+-- The records of a list one after another, as they are read, and what stands behind the last macro.
 -- Assumes nothing.
 use Prim.Native.Nat.{ℕ, suc, ◌+◌, ◌≤◌, ◌<◌}
 use mathlib.Core.Bool.{Bool, true, false, not, ◌&&◌}
@@ -7,15 +7,43 @@ use mathlib.Core.Path.{◌≡◌, sym, ap, ◌∙◌}
 use native.Mathlib.Numerals.{add-one}
 use lib.ListN.{length, drop, get_or, drop_of_length-le}
 use lib.Seq.{drop-cons}
-use borrow.Author.Tests.{not-true, not-false, lt-ltb, le-ltb, le-leb, lt-leb}
+use borrow.Author.Tests.{not-true, not-false, eq-eqb, lt-ltb, le-ltb, le-leb, lt-leb}
 use Rattle.text.specs.Bytes.{part}
 use Rattle.packed.specs.Records.{blank_record, record_of, RecordIs}
 use Rattle.packed.specs.declared.Record.{Record}
-use Rattle.checks.specs.Checks.{is_blank, is_four, ends_there}
-use Rattle.genuine.specs.Layout.{left_from, left_in, entry_fits, end_of, name_in}
-use Rattle.checks.specs.declared.Checked.{Checked}
-use Rattle.checks.specs.declared.Checked.TheVariants as checked
-use Rattle.checks.proofs.Behind.{row_four, row_told}
+use Rattle.genuine.specs.Layout.{is_blank, is_four, all_blank, all_zero, ends_there, left_from, left_in, entry_fits, end_of, name_in}
+use Rattle.genuine.specs.declared.Checked.{Checked}
+use Rattle.genuine.specs.declared.Checked.TheVariants as checked
+use Rattle.genuine.proofs.Testing.{no, yes}
+
+module _ {v : List ℕ} {r : Record} (h : RecordIs v r) where
+  pub row_four : is_four v ≡ true
+  row_four = eq-eqb (length v) 4 h.four
+
+  pub row_told : (is_four v && is_blank (record_of v)) ≡ is_blank r
+  row_told = rw (row_four) (ap is_blank (sym h.value))
+
+  module _ {b : Bool} (e : b ≡ is_blank r) where
+    pub row_other : not b ≡ true → (is_four v && is_blank (record_of v)) ≡ false
+    row_other t = row_told ∙ no e t
+
+    pub row_blank : not b ≡ false → (is_four v && is_blank (record_of v)) ≡ true
+    row_blank t = row_told ∙ yes e t
+
+-- what stands behind the last macro
+module _ (n : ℕ) (b : List ℕ) (at : ℕ) (vs : List (List ℕ)) {f : Bool} (t : f ≡ all_blank vs) where
+  pub rows_behind : not f ≡ true → checked.Foreign ≡ ends_there n b at vs
+  unfolding ends_there
+  rows_behind k = rw (no t k)
+
+  module _ (y : not f ≡ false) {g : Bool} (u : g ≡ all_zero (drop at b)) where
+    pub bytes_behind : not g ≡ true → checked.Foreign ≡ ends_there n b at vs
+    unfolding ends_there
+    bytes_behind k = rw (yes t y, no u k)
+
+    pub none_behind : not g ≡ false → checked.Left n ≡ ends_there n b at vs
+    unfolding ends_there
+    none_behind k = rw (yes t y, yes u k)
 
 -- the record after n macros
 module _ (n : ℕ) (b : List ℕ) (at : ℕ) (w : List ℕ) (rows : List (List ℕ)) where

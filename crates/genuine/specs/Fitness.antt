@@ -1,17 +1,31 @@
 -- Which macros some definition stores (01: "a store that no definitions leave").
 -- Assumes nothing.
-use Rattle.std.specs.Prelude.{ℕ, Bool, true, false, cond, not, ◌&&◌, List, [], ◌∷◌, leb, length}
+use Rattle.std.specs.Prelude.{ℕ, Bool, true, false, cond, not, ◌&&◌, List, [], ◌∷◌, leb, ltb, length}
 use Rattle.std.proofs.Math.Option.{Option, none, some}
 use Rattle.text.specs.Bytes.{same}
-use Rattle.lex.specs.Classes.{is_start}
+use Rattle.lex.specs.Classes.{is_start, is_run}
 use Rattle.names.specs.Names.{is_directive}
+use Rattle.storing.specs.Stored.{trim_left, trim_right}
 use Rattle.afresh.specs.Unfit.{is_unfit_as}
-use Rattle.checks.specs.Checks.{is_short, all_solid, all_run, is_trimmed}
 use Rattle.definition.specs.Definitions.{Parameter, parameter, Macro, macro}
+
+-- "name 1,024 bytes"
+abbrev pub is_short : List ℕ → Bool
+is_short n = ltb 0 (length n) && leb (length n) 1024
+
+-- bytes of an escaped name: legal and no white space
+unfoldable pub all_solid : List ℕ → Bool
+all_solid [] = true
+all_solid (x ∷ xs) = (leb 33 x && leb x 126) && all_solid xs
 
 -- a macro's name
 unfoldable pub fit_name : List ℕ → Bool
 fit_name n = is_short n && (all_solid n && not (is_directive n))
+
+-- "letters, digits, `_`, `$`"
+unfoldable pub all_run : List ℕ → Bool
+all_run [] = true
+all_run (x ∷ xs) = is_run 36 x && all_run xs
 
 abbrev pub is_plain : List ℕ → Bool
 is_plain [] = false
@@ -20,6 +34,10 @@ is_plain (x ∷ xs) = is_start x && all_run xs
 -- a formal's name is a plain one
 unfoldable pub fit_formal : List ℕ → Bool
 fit_formal n = is_short n && is_plain n
+
+-- "white space and newlines at both ends dropped"
+abbrev pub is_trimmed : List ℕ → Bool
+is_trimmed w = same (trim_right (trim_left w)) w
 
 -- a stored text, or else a stored default
 unfoldable pub fit_stored : Bool → List ℕ → Bool

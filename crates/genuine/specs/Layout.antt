@@ -1,15 +1,16 @@
 -- Which records and bytes definitions leave: forms packed from the first byte on, in strict byte order of their names, each one
 -- that some definition stores, and all zero past the last.
 -- Assumes nothing.
-use Rattle.std.specs.Prelude.{ℕ, zero, suc, ◌+◌, Bool, true, false, cond, not, ◌&&◌, List, [], ◌∷◌, eqb, leb, ltb, length, get_or}
+use Rattle.std.specs.Prelude.{ℕ, zero, suc, ◌+◌, Bool, true, false, cond, not, ◌&&◌, List, [], ◌∷◌, eqb, leb, ltb, length, get_or, drop}
 use Rattle.text.specs.Bytes.{same, part, two_at}
 use Rattle.text.specs.Order.{order_of}
+use Rattle.text.specs.declared.Order.{Order}
+use Rattle.text.specs.declared.Order.TheVariants.{Less, Equal, Greater}
 use Rattle.packed.specs.Records.{record_of}
 use Rattle.packed.specs.declared.Record.{Record}
-use Rattle.checks.specs.Checks.{is_less, is_blank, is_four, ends_there}
 use Rattle.genuine.specs.Fitness.{fit_name, fit_formal, fit_stored}
-use Rattle.checks.specs.declared.Checked.{Checked}
-use Rattle.checks.specs.declared.Checked.TheVariants as checked
+use Rattle.genuine.specs.declared.Checked.{Checked}
+use Rattle.genuine.specs.declared.Checked.TheVariants as checked
 
 -- "per formal two bytes of length (low first), name, mark .., two bytes of length, default": of the formal at i, where its name
 -- ends, which is where its mark stands; its name; where its default starts and ends
@@ -47,6 +48,11 @@ unfoldable pub formals_fit : ℕ → List ℕ → ℕ → ℕ → Bool
 formals_fit zero b i e = eqb i e
 formals_fit (suc c) b i e = formal_fits c b i e && formals_fit c b (formal_end b i) e
 
+abbrev pub is_less : Order → Bool
+is_less Less = true
+is_less Equal = false
+is_less Greater = false
+
 abbrev pub name_in : List ℕ → Record → List ℕ
 name_in b r = part b r.start (r.start + r.name)
 
@@ -69,6 +75,25 @@ entry_fits b a w r =
     eqb r.start a &&
     (leb (end_of r) (length b) &&
     (leb (count_at r + 1) r.text && (fit_name (name_in b r) && (is_less (order_of w (name_in b r)) && body_fits b r))))
+
+unfoldable pub all_zero : List ℕ → Bool
+all_zero [] = true
+all_zero (x ∷ xs) = eqb x 0 && all_zero xs
+
+abbrev pub is_blank : Record → Bool
+is_blank r = eqb r.start 0 && (eqb r.name 0 && (eqb r.text 0 && eqb r.size 0))
+
+-- a record is four numbers
+abbrev pub is_four : List ℕ → Bool
+is_four v = eqb (length v) 4
+
+unfoldable pub all_blank : List (List ℕ) → Bool
+all_blank [] = true
+all_blank (v ∷ vs) = (is_four v && is_blank (record_of v)) && all_blank vs
+
+-- n macros, if nothing stands behind the last, whose form ends at a
+unfoldable pub ends_there : ℕ → List ℕ → ℕ → List (List ℕ) → Checked
+ends_there n b a vs = cond (all_blank vs && all_zero (drop a b)) (checked.Left n) checked.Foreign
 
 -- the number of macros, where n stand before and the form of the last of these, of the name w, ends at a
 unfoldable pub left_from : ℕ → List ℕ → ℕ → List ℕ → List (List ℕ) → Checked

@@ -2,8 +2,8 @@
 -- Assumes nothing.
 use Rattle.std.specs.Prelude.{ℕ, ◌≤◌, true, ◌≡◌, List, length}
 use Rattle.definition.specs.Definitions.{Macro}
-use Rattle.finding.specs.Stores.{Ascending}
-use Rattle.finding.specs.Buffers.{Holds}
+use Rattle.store.specs.Stores.{Ascending}
+use Rattle.store.specs.Buffers.{Holds}
 use Rattle.genuine.specs.Fitness.{all_fit}
 
 pub record LeftBy (ms : List Macro) (b : List ℕ) (r : List (List ℕ)) : Type 0 where

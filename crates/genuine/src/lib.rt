@@ -1,19 +1,48 @@
 // Which macro stores definitions leave (document 01: "On a store that no definitions leave, look up shows an empty part").
 #![tactic(auto)]
 
-ghost use Rattle.std.specs.Prelude.{◌≡◌, [], ◌+◌, ◌≤◌, length};
+ghost use Rattle.std.specs.Prelude.{◌≡◌, [], ◌+◌, ◌≤◌, length, drop};
 ghost use Rattle.text.specs.Bytes.{part};
+ghost use Rattle.text.specs.Order.{order_of};
 ghost use Rattle.packed.specs.Records.{Small};
-ghost use Rattle.genuine.specs.Fitness.{fit_name, fit_formal, fit_stored};
-ghost use Rattle.genuine.specs.Layout.{mark_at, formal_end, formal_name, default_fits, named_from, formal_fits, formals_fit, body_fits, entry_fits, left_from, left_in};
+ghost use Rattle.genuine.specs.Fitness.{is_short, all_solid, fit_name, all_run, fit_formal, is_trimmed, fit_stored};
+ghost use Rattle.genuine.specs.Layout.{mark_at, formal_end, formal_name, default_fits, named_from, formal_fits, formals_fit, is_less, body_fits, entry_fits, all_zero, all_blank, ends_there, left_from, left_in};
+ghost use Rattle.genuine.specs.Layout.{is_blank as isBlankRecord};
 
 use afresh::Verdict;
-use checks::{Checked, all_run, all_solid, ends_there, is_before, is_blank, is_short, is_trimmed};
 use judging::judge_whole;
-use lex::is_start;
+use lex::{is_run, is_space, is_start};
 use names::directive_of;
 use packed::{Record, read};
-use text::{part_of, peek, same, two_at};
+use text::{Order, compare, part_of, peek, same, two_at};
+
+// The number of macros that a store holds, or that no definitions leave it.
+#[derive(Clone, Copy)]
+pub enum Checked {
+    Left(usize),
+    Foreign,
+}
+
+// Whether all bytes are legal and no white space.
+fn all_solid(w: &[u8]) -> bool
+    ensures { result ≡ all_solid w.now }
+{
+    let mut i = 0;
+    while i < w.len() {
+        if (w[i] < 33) | (126 < w[i]) {
+            return false;
+        }
+        i += 1;
+    }
+    true
+}
+
+// Whether a name has 1 to 1,024 bytes.
+fn is_short(w: &[u8]) -> bool
+    ensures { result ≡ is_short w.now }
+{
+    (0 < w.len()) & (w.len() <= 1024)
+}
 
 // Whether a definition can have the name `w`.
 fn is_fit_name(w: &[u8]) -> bool
@@ -28,6 +57,20 @@ fn is_fit_name(w: &[u8]) -> bool
     directive_of(w) == 0
 }
 
+// Whether the bytes from `at` on are letters, digits, `_` or `$`.
+fn all_run(w: &[u8], at: usize) -> bool
+    ensures { result ≡ all_run (drop at w.now) }
+{
+    let mut i = at;
+    while i < w.len() {
+        if !is_run(36, w[i]) {
+            return false;
+        }
+        i += 1;
+    }
+    true
+}
+
 // Whether a formal can have the name `w`.
 fn is_fit_formal(w: &[u8]) -> bool
     ensures { result ≡ fit_formal w.now }
@@ -39,6 +82,19 @@ fn is_fit_formal(w: &[u8]) -> bool
         return false;
     }
     all_run(w, 1)
+}
+
+// Whether no white space stands at either end.
+fn is_trimmed(w: &[u8]) -> bool
+    ensures { result ≡ is_trimmed w.now }
+{
+    if w.len() == 0 {
+        return true;
+    }
+    if is_space(w[0]) {
+        return false;
+    }
+    !is_space(w[w.len() - 1])
 }
 
 // Whether a definition can store the text (or the default) `w`, with bytes for names and for brackets.
@@ -164,6 +220,18 @@ fn formals_fit(
     i == end
 }
 
+// Whether the name `w` stands before `v` in byte order.
+fn is_before(w: &[u8], v: &[u8]) -> bool
+    ensures { result ≡ is_less (order_of w.now v.now) }
+{
+    let o = compare(w, v);
+    match o {
+        Order::Less => true,
+        Order::Equal => false,
+        Order::Greater => false,
+    }
+}
+
 // Whether the text of the record `r` and the formals before it are such that a definition stores them.
 fn body_fits(b: &[u8], r: Record, name: &mut [u8], stack: &mut [u8]) -> bool
     requires { (Small r) × (length b.now ≤ 65536) × (r.start + r.name + 1 ≤ r.text) × (r.text + r.size ≤ length b.now) × (1025 ≤ length name.old) × (16384 ≤ length stack.old) }
@@ -212,6 +280,53 @@ fn entry_fits(
         return false;
     }
     body_fits(b, r, name, stack)
+}
+
+// Whether all bytes from `at` on are zero.
+fn all_zero(b: &[u8], at: usize) -> bool
+    ensures { result ≡ all_zero (drop at b.now) }
+{
+    let mut i = at;
+    while i < b.len() {
+        if b[i] != 0 {
+            return false;
+        }
+        i += 1;
+    }
+    true
+}
+
+fn is_blank(r: Record) -> bool
+    ensures { result ≡ isBlankRecord r }
+{
+    (r.start == 0) & ((r.name == 0) & ((r.text == 0) & (r.size == 0)))
+}
+
+// Whether all records from `at` on are blank.
+fn all_blank(records: &[[u32; 4]], at: usize) -> bool
+    ensures { result ≡ all_blank (drop at records.now) }
+{
+    let mut i = at;
+    while i < records.len() {
+        if !is_blank(read(records, i)) {
+            return false;
+        }
+        i += 1;
+    }
+    true
+}
+
+// Whether nothing stands behind the last of `count` macros, whose form ends at `end`.
+fn ends_there(records: &[[u32; 4]], bytes: &[u8], count: usize, end: usize) -> Checked
+    ensures { result ≡ ends_there count bytes.now end (drop count records.now) }
+{
+    if !all_blank(records, count) {
+        return Checked::Foreign;
+    }
+    if !all_zero(bytes, end) {
+        return Checked::Foreign;
+    }
+    Checked::Left(count)
 }
 
 // Checks records and at most 65,536 bytes, with bytes for names and for brackets.

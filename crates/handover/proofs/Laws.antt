@@ -9,7 +9,7 @@ use borrow.Author.Tests.{leb-true, ltb-true}
 use lib.Dec.{leb, ltb}
 use lib.ListN.{length, drop, get_or, length-take}
 use Rattle.lex.proofs.Tests.{by_test, and_left, and_right}
-use Rattle.starts.specs.Starting.{starts_fit}
+use Rattle.macros.specs.Starting.{starts_fit}
 use Rattle.handover.specs.Entries.{blank_entry, name_end, body_end, entry_name, entry_body, name_bytes, is_file_name, is_entry, all_entries, is_named, entry_of}
 use Rattle.handover.specs.Sizes.{HandOver, Rooms, is_sound}
 

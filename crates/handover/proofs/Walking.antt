@@ -11,7 +11,7 @@ use lib.Dec.{leb, ltb}
 use lib.ListN.{length, drop, get_or, drop_of_length-le}
 use lib.Seq.{drop-cons}
 use Rattle.text.specs.Bytes.{same, part}
-use Rattle.starts.specs.Starting.{starts_fit}
+use Rattle.macros.specs.Starting.{starts_fit}
 use Rattle.handover.specs.Entries.{name_end, body_end, entry_name, is_name_byte, name_bytes, is_file_name, is_entry, all_entries, is_named, entry_of}
 use Rattle.handover.specs.Sizes.{HandOver, Rooms, is_sound}
 

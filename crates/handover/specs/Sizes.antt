@@ -1,7 +1,7 @@
 -- What is handed over, and refusal 1.
 -- Assumes nothing.
 use Rattle.std.specs.Prelude.{ℕ, Bool, ◌&&◌, List, leb, ltb, length}
-use Rattle.starts.specs.Starting.{starts_fit}
+use Rattle.macros.specs.Starting.{starts_fit}
 use Rattle.handover.specs.Entries.{all_entries}
 
 -- "byte store, include table, root entry, macro names defined empty, starting keyword set, replacement limit"

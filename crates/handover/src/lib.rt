@@ -5,7 +5,7 @@ ghost use Rattle.std.specs.Prelude.{◌≡◌, length, get_or, ℕ, ◌<◌};
 ghost use Rattle.handover.specs.Entries.{blank_entry, entry_name, entry_body, is_name_byte, body_of, name_of, is_file_name, is_entry, all_entries, is_named, entry_of};
 ghost use Rattle.handover.specs.Sizes.{is_sound};
 
-use starts::starts_fit;
+use macros::starts_fit;
 use text::{part_of, same};
 
 fn wide(x: u32) -> usize

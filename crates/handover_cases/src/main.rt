@@ -4,8 +4,7 @@
 // input, in the printing program's form; then the input. A number is four bytes, low first.
 #![tactic(auto)]
 
-use formats::{least, number_at, say};
-use libc::STDIN_FILENO;
+use formats::{STDIN_FILENO, least, number_at, say};
 use outcome::{dump_input, print_input};
 
 // Prints or dumps what comes of the input `s`, by the frame's numbers.

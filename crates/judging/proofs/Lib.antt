@@ -1,3 +1,4 @@
+pub mod Feeding
 pub mod Verdicts
 pub mod Shapes
 pub mod Scanning

@@ -20,8 +20,7 @@ use Rattle.lex.specs.declared.Token.{Token}
 use Rattle.lex.proofs.Tests.{by_test, true_false, and_left, read_within}
 use Rattle.lex.proofs.Progress.{token_ends}
 use Rattle.brackets.specs.Steps.{on, step_of}
-use Rattle.reader_state.specs.States.{is_open}
-use Rattle.afresh.specs.Unfit.{held_by, unless}
+use Rattle.afresh.specs.Unfit.{held_by, is_open, unless}
 use Rattle.afresh.proofs.Sorts.{or_false, apart}
 use Rattle.afresh.proofs.Wording.{run_past}
 use Rattle.judging.proofs.Shapes.{Closed, close, pair, byte, Solid, Spaced, none, some, span_solid}

@@ -13,16 +13,15 @@ use Rattle.lex.specs.Classes.{is_space}
 use Rattle.brackets.specs.Stacks.{stack_of, Full, Settled, full, over}
 use Rattle.brackets.proofs.Stacking.{full_more}
 use Rattle.storing.specs.Stored.{keep, trim_left, trim_right}
-use Rattle.reader_state.specs.declared.Reading.{Reading}
-use Rattle.reader_state.specs.States.{reading, ended, begun}
-use Rattle.reader_state.specs.Feeding.{state_of, Sound}
+use Rattle.afresh.specs.declared.Reading.{Reading}
 use Rattle.afresh.specs.declared.Verdict.{Verdict}
 use Rattle.afresh.specs.declared.Verdict.TheVariants.{Short}
-use Rattle.afresh.specs.Verdicts.{verdict_of}
+use Rattle.afresh.specs.States.{reading, ended, begun}
+use Rattle.afresh.specs.Feeding.{state_of, Sound, verdict_of}
 use Rattle.afresh.specs.Unfit.{is_unfit_as}
 use Rattle.afresh.proofs.Spaces.{trimmed}
 use Rattle.afresh.proofs.Meaning.{meaning}
-use Rattle.feeding.proofs.Feeding.{Feeding, feeding_first}
+use Rattle.judging.proofs.Feeding.{Feeding, feeding_first}
 
 -- before the first byte
 abbrev pub starting : Bool → Reading

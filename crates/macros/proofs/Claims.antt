@@ -8,15 +8,14 @@ use mathlib.Core.Path.{◌≡◌, refl, sym, ap, ◌∙◌}
 use lib.ListN.{length, get_or}
 use borrow.Author.Tests.{le-leb}
 use Rattle.definition.specs.Definitions.{Macro}
-use Rattle.finding.specs.Stores.{encode}
-use Rattle.store.specs.Stores.{fits}
-use Rattle.finding.specs.Buffers.{Holds}
-use Rattle.finding.proofs.Entries.{bytes_fit, rows_fit}
+use Rattle.store.specs.Stores.{encode, fits}
+use Rattle.store.specs.Buffers.{Holds}
+use Rattle.store.proofs.Entries.{bytes_fit, rows_fit}
 use Rattle.genuine.specs.Layout.{left_in}
 use Rattle.genuine.specs.Leaving.{LeftBy}
-use Rattle.checks.specs.declared.Checked.TheVariants.{Left}
+use Rattle.genuine.specs.declared.Checked.TheVariants.{Left}
 use Rattle.genuine.proofs.Accepting.{Accepted, left_complete, left_sound}
-use Rattle.starts.specs.Starting.{all_starts, started_from, started, starts_fit}
+use Rattle.macros.specs.Starting.{all_starts, started_from, started, starts_fit}
 use Rattle.macros.specs.History.{Deed, after_all, spellings}
 use Rattle.macros.proofs.Kept.{Sound, started_sound, all_kept}
 use Rattle.macros.proofs.Respelled.{spelled_out}

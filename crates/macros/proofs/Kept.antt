@@ -10,19 +10,18 @@ use lib.ListN.{length}
 use borrow.Author.Tests.{leb-true}
 use Rattle.lex.proofs.Tests.{by_test, and_left, and_right}
 use Rattle.definition.specs.Definitions.{Macro, Definition, barred, bad, good, definition_at}
-use Rattle.finding.specs.Stores.{Ascending, find, encode}
-use Rattle.store.specs.Stores.{define, undefine, fits}
-use Rattle.finding.specs.declared.Found.{Found}
-use Rattle.finding.specs.declared.Found.TheVariants.{At, Missing}
+use Rattle.store.specs.Stores.{Ascending, find, define, undefine, encode, fits}
+use Rattle.store.specs.declared.Found.{Found}
+use Rattle.store.specs.declared.Found.TheVariants.{At, Missing}
 use Rattle.store.proofs.Ordering.{define_ascends, undefine_ascends, undefine_length, undefine_missing}
 use Rattle.genuine.specs.Fitness.{fit_macro, all_fit}
 use Rattle.genuine.proofs.Fitting.{good_fit}
-use Rattle.look_up.specs.Looking.{plainly}
-use Rattle.additions.specs.Adding.{macros_after}
-use Rattle.starts.specs.Starting.{all_starts, started, starts_fit}
+use Rattle.macros.specs.Looking.{plainly}
+use Rattle.macros.specs.Defining.{macros_after}
+use Rattle.macros.specs.Starting.{all_starts, started, starts_fit}
 use Rattle.macros.specs.History.{Deed, defines, undefines, undefines_all, after, after_all}
-use Rattle.starts.proofs.Each.{define_fit, undefine_fit}
-use Rattle.starts.proofs.Started.{fit_starts, started_ascends, started_fit}
+use Rattle.macros.proofs.Each.{define_fit, undefine_fit}
+use Rattle.macros.proofs.Started.{fit_starts, started_ascends, started_fit}
 
 pub record Sound (ms : List Macro) : Type 0 where
   pub order : Ascending ms

@@ -1,4 +1,13 @@
+pub mod Each
+pub mod StartNames
+pub mod Started
 pub mod Kept
 pub mod Respelled
 pub mod Claims
+pub mod Showing
+pub mod Heading
 pub mod Reading
+pub mod Ranges
+pub mod Emptying
+pub mod Starting
+pub mod LookedUp

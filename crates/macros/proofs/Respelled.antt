@@ -13,11 +13,10 @@ use Rattle.text.specs.declared.Order.TheVariants.{Less}
 use Rattle.text.proofs.Comparing.{turned, order_turned, order_trans}
 use Rattle.lex.proofs.Tests.{and_left, and_right}
 use Rattle.definition.specs.Definitions.{Macro}
-use Rattle.finding.specs.Stores.{macro_name, Below, Ascending, encode}
-use Rattle.store.specs.Stores.{define, fits}
-use Rattle.finding.specs.declared.Found.TheVariants.{Missing}
+use Rattle.store.specs.Stores.{macro_name, Below, Ascending, define, encode, fits}
+use Rattle.store.specs.declared.Found.TheVariants.{Missing}
 use Rattle.store.proofs.Ordering.{Belongs, find_belongs, define_at}
-use Rattle.entries.proofs.Rooms.{encode_long}
+use Rattle.store.proofs.Rooms.{encode_long}
 use Rattle.genuine.specs.Fitness.{fit_macro, all_fit}
 use Rattle.genuine.specs.Spelling.{definition_of, word_end}
 use Rattle.genuine.proofs.ReadBack.{read_back}

@@ -4,8 +4,8 @@ use Rattle.std.specs.Prelude.{ℕ, List, [], ◌∷◌}
 use Rattle.definition.specs.Definitions.{Macro, definition_at}
 use Rattle.store.specs.Stores.{undefine}
 use Rattle.genuine.specs.Spelling.{definition_of, word_end}
-use Rattle.look_up.specs.Looking.{plainly}
-use Rattle.additions.specs.Adding.{macros_after}
+use Rattle.macros.specs.Looking.{plainly}
+use Rattle.macros.specs.Defining.{macros_after}
 
 pub data Deed : Type 0 where
   defines : List ℕ → ℕ → Deed  -- the definition in a text whose word ends there, stored or refused

@@ -1,2 +1,4 @@
+pub mod Looking
 pub mod Defining
+pub mod Starting
 pub mod History

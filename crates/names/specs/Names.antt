@@ -1,4 +1,5 @@
--- The directive names, "001's list, `keywords` and `endkeywords`", each with a number: tables of words that stand for one.
+-- The directive names, "001's list, `keywords` and `endkeywords`", each with a number; and the tables of words that
+-- stand for a number.
 -- Assumes nothing.
 use Prim.Native.String.{String}
 use Rattle.std.specs.Prelude.{ℕ, Bool, cond, List, [], ◌∷◌, ltb}
@@ -124,3 +125,29 @@ is_directive w = ltb 0 (directive_of w)
 -- "directive in the text (the two `__` words are allowed)"
 abbrev pub bars_text : List ℕ → Bool
 bars_text w = ltb 2 (directive_of w)
+
+-- no word of the table
+abbrev pub Unknown : ℕ
+Unknown = 99
+
+-- "s ms us ns ps fs" as powers of ten, 1 fs is 0
+unfoldable pub unit_of : List ℕ → ℕ
+unit_of w = number_in (pair "s" 15 ∷ pair "ms" 12 ∷ pair "us" 9 ∷ pair "ns" 6 ∷ pair "ps" 3 ∷ pair "fs" 0 ∷ []) Unknown w
+
+-- "wire tri tri0 tri1 wand triand wor trior trireg uwire none", numbered from 0
+unfoldable pub nettype_of : List ℕ → ℕ
+nettype_of w =
+    number_in
+    (pair "wire" 0 ∷ pair "tri" 1 ∷ pair "tri0" 2 ∷ pair "tri1" 3 ∷ pair "wand" 4 ∷ pair "triand" 5 ∷ pair "wor" 6 ∷
+    pair "trior" 7 ∷ pair "trireg" 8 ∷ pair "uwire" 9 ∷ pair "none" 10 ∷ [])
+    Unknown w
+
+-- "pull0 or pull1"; 0 is no drive
+unfoldable pub drive_of : List ℕ → ℕ
+drive_of w = number_in (pair "pull0" 1 ∷ pair "pull1" 2 ∷ []) Unknown w
+
+-- "Versions", with their quotes
+unfoldable pub version_of : List ℕ → ℕ
+version_of w =
+    number_in
+    (pair "\"1364-1995\"" 0 ∷ pair "\"1364-2001\"" 1 ∷ pair "\"1364-2005\"" 2 ∷ pair "\"1800-2005\"" 3 ∷ []) Unknown w

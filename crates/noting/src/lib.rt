@@ -9,7 +9,7 @@ ghost use Rattle.std.specs.Prelude.{◌<◌, length};
 
 use crate::includes::take_include;
 use crate::notes::note;
-use formals::extent_at;
+use definition::extent_at;
 use lex::{CONTINUATION, NEWLINE, Token, WHITE, in_definition, token_at};
 use names::{DEFINE, INCLUDE, UNDEF, UNDEFINE_ALL};
 use places::newlines_in;

@@ -2,9 +2,9 @@
 // map shows that the directive was carried out, its first byte, its kind and a mark.
 use crate::includes::is_late;
 use crate::tallies::{SEEN, STOPPED, VAGUE};
-use formals::{extent_at, head_at};
+use definition::{extent_at, head_at};
 use lex::{ESCAPED, NAME, Token, in_definition, token_at};
-use line_words::{Word, word_at, word_start};
+use directive::{Word, word_at, word_start};
 use names::{DEFINE, UNDEFINE_ALL};
 use places::newlines_in;
 use plan::{count_up, get, put, sum, to_u32, wide};

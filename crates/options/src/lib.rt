@@ -1,7 +1,7 @@
 // The words of the technician's command line: commands, options, numbers, keyword sets.
 #![tactic(auto)]
 
-use form_words::version_of;
+use names::version_of;
 use places::quote;
 use text::{begins_at, part_of, peek, same};
 

@@ -4,13 +4,12 @@
 
 ghost use Rattle.std.specs.Prelude.{◌≤◌};
 
-use flattened::Flattened;
+use flatten::Flattened;
 use formats::{
-    least, say, say_bytes, say_classified, say_count, say_number, say_pass, say_records,
-    say_refusal, say_words,
+    STDOUT_FILENO, least, say, say_bytes, say_classified, say_count, say_number, say_pass,
+    say_records, say_refusal, say_words,
 };
 use input::Parsed;
-use libc::STDOUT_FILENO;
 use settings::Settings;
 use text::part_of;
 

@@ -5,7 +5,7 @@ use crate::gathering::{flush, pour};
 use genuine::{formal_end, formal_name, mark_at};
 use plan::wide;
 use records::Record;
-use starts::is_start_name;
+use macros::is_start_name;
 use std::io::{Error, ErrorKind, Result, Write};
 use text::{holds_in, part_of, peek, two_at};
 

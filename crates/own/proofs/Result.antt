@@ -13,11 +13,10 @@ use denote.Struct.Declared as D
 use denote.Struct.Struct.{Struct}
 use denote.Struct.Laws as LL
 use borrow.Struct.Items.{is_same}
-use Rattle.flattened.specs.declared.Flattened.{Flattened}
+use Rattle.flatten.specs.declared.Flattened.{Flattened}
 use Rattle.records.specs.declared.Record.{Record}
 use Rattle.records.specs.contracts.Record as T
-use Rattle.records.proofs.Rec.{Row}
-use Rattle.lent.proofs.Rec.{Fla}
+use Rattle.records.proofs.Rec.{Row, Fla}
 use Rattle.own.specs.declared.Own.{Own}
 use Rattle.own.specs.contracts.Own as O
 use Rattle.own.proofs.Own.TheLaws as O'

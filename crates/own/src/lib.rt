@@ -1,14 +1,14 @@
-// The operations for a program that keeps its macro records by value: the local array is lent to `lent` here, so that its
+// The operations for a program that keeps its macro records by value: the local array is lent to `records` here, so that its
 // callers are free of slices of structs.
 #![tactic(auto)]
 
 ghost use Rattle.std.specs.Prelude.{replicate};
-ghost use Rattle.look_up.specs.Looking.{Shows};
+ghost use Rattle.macros.specs.Looking.{Shows};
 ghost use Rattle.pass.specs.Answer.{Passes};
 ghost use Rattle.flatten.specs.Flattening.{lent, hand_over, Flattens};
 ghost use Rattle.records.specs.Records.{no_record, rows_of};
 
-use flattened::Flattened;
+use flatten::Flattened;
 use pass::Answer;
 use records::Record;
 
@@ -40,7 +40,7 @@ pub fn flatten(
         text_length: 0,
     };
     let mut records = [z; 4096];
-    let answer = lent::flatten(
+    let answer = records::flatten(
         files,
         table,
         root,
@@ -59,12 +59,12 @@ pub fn flatten(
 pub fn look_up<'a>(bytes: &'a [u8], records: [Record; 4096], name: &[u8]) -> &'a [u8]
     ensures { Shows bytes.now (rows_of records) name.now result.now }
 {
-    lent::look_up(bytes, &records, name)
+    records::look_up(bytes, &records, name)
 }
 
 // Pass on records of its own.
 pub fn pass(bytes: &[u8], records: [Record; 4096]) -> Answer
     ensures { Passes bytes.now (rows_of records) result }
 {
-    lent::pass(bytes, &records)
+    records::pass(bytes, &records)
 }

@@ -20,8 +20,8 @@ module _ {A : Type 0} where
       ∙ ap (λ (k : ℕ). get_or d k z) e
 
   -- and so is what stands before it
-  getD_before : (d m r : List A) (at i : ℕ) (z : A) → at ≤ length d → i < at → get_or (take at d ++ m ++ r) i z ≡ get_or d i z
-  getD_before d m r at i z h l =
+  get_d_before : (d m r : List A) (at i : ℕ) (z : A) → at ≤ length d → i < at → get_or (take at d ++ m ++ r) i z ≡ get_or d i z
+  get_d_before d m r at i z h l =
       let n : length (take at d) ≡ at = length-take-le at d h in
       get_or-append (take at d ++ m) r z i (simp length-append (omega (arith, n)))
       ∙ get_or-append (take at d) m z i (omega (arith, n))
@@ -49,7 +49,7 @@ module _ {A : Type 0} where
       let b : from + k < length d = omega arith in
       rw (e, e₁, e₂, e₃, e₄)
       (ap (λ (u : A). set (take (suc (to + k)) d ++ take (n - suc k) s ++ t) (to + k) u)
-      (getD_before d (take (n - suc k) s) t (suc (to + k)) (from + k) z g (omega arith))
+      (get_d_before d (take (n - suc k) s) t (suc (to + k)) (from + k) z g (omega arith))
       ∙ front d (take (n - suc k) s) t (to + k) v g
       ∙ ap (λ (y : List A). take (to + k) d ++ take (suc (n - suc k)) y ++ t) (sym (drop-cons d (from + k) z b)))
 

@@ -5,16 +5,16 @@ use mathlib.Core.List.{List}
 use mathlib.Core.Path.{◌≡◌, refl, sym, subst, ◌∙◌}
 use lib.ListN.{length, get_or}
 use Rattle.definition.specs.Definitions.{Macro}
-use Rattle.finding.specs.Buffers.{Holds}
+use Rattle.store.specs.Buffers.{Holds}
 use Rattle.genuine.specs.Layout.{left_in}
-use Rattle.checks.specs.declared.Checked.{Checked}
-use Rattle.checks.specs.declared.Checked.TheVariants.{Left, Foreign}
+use Rattle.genuine.specs.declared.Checked.{Checked}
+use Rattle.genuine.specs.declared.Checked.TheVariants.{Left, Foreign}
 use Rattle.genuine.proofs.Accepting.{Accepted, left_complete, left_sound}
 use Rattle.passing.specs.Passing.{pass_of}
-use Rattle.unfolding.specs.Unfolding.{Kept}
 use Rattle.pass.specs.declared.Answer.{Answer}
 use Rattle.pass.specs.declared.Answer.TheVariants as answer
 use Rattle.pass.specs.Answer.{answer_of, Passes}
+use Rattle.pass.specs.Judging.{Kept}
 
 module _ {b : List ℕ} {r : List (List ℕ)} {c : Checked} (e : c ≡ left_in b r) where
   pub left_kept : ((i : ℕ) → get_or b i 0 < 256) → (n : ℕ) → c ≡ Left n → Kept b r n

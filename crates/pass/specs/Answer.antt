@@ -2,10 +2,10 @@
 -- Assumes nothing.
 use Rattle.std.specs.Prelude.{ℕ, ◌≡◌, List, []}
 use Rattle.definition.specs.Definitions.{Macro}
-use Rattle.finding.specs.Stores.{macro_name, macro_at}
+use Rattle.store.specs.Stores.{macro_name, macro_at}
 use Rattle.genuine.specs.Layout.{left_in}
 use Rattle.genuine.specs.Leaving.{LeftBy}
-use Rattle.checks.specs.declared.Checked.TheVariants.{Foreign}
+use Rattle.genuine.specs.declared.Checked.TheVariants.{Foreign}
 use Rattle.passing.specs.Passing.{Passed, yes, fault, pass_of}
 use Rattle.pass.specs.declared.Answer.{Answer}
 use Rattle.pass.specs.declared.Answer.TheVariants as answer

@@ -13,9 +13,9 @@ use lib.Dec.{eqb}
 use lib.ListN.{length}
 use borrow.Author.Tests.{eqb-true, eqb-false, eq-eqb}
 use Rattle.definition.specs.Definitions.{Macro}
-use Rattle.finding.specs.Stores.{find}
-use Rattle.finding.specs.declared.Found.{Found}
-use Rattle.finding.specs.declared.Found.TheVariants.{At, Missing}
+use Rattle.store.specs.Stores.{find}
+use Rattle.store.specs.declared.Found.{Found}
+use Rattle.store.specs.declared.Found.TheVariants.{At, Missing}
 use Rattle.store.proofs.Ordering.{find_at_lt}
 use Rattle.pending.specs.Pending.{Pending, view}
 use Rattle.pending.proofs.Viewing.{by_usage}
@@ -71,6 +71,7 @@ module _ (ms : List Macro) where
 
   pub uses_below : (ps : List Pending) (j : ℕ) → In j (uses_in ms ps) → j < length ms
   unfolding uses_in
+  uses_below [] j h = elim h [ ]
   uses_below (p ∷ ps) j h =
       by_usage (λ (l : List ℕ). In j l → j < length ms) (view p) (λ e. uses_below ps j)
       (λ w e. used_below w (uses_in ms ps) j (uses_below ps j) (find w ms) refl) h
@@ -86,16 +87,19 @@ module _ (ms : List Macro) where
 
   any_in : (go : ℕ → Bool) (j k : ℕ) (ks : List ℕ) → In k ks → (eqb k j || go k) ≡ true → reaches_any go j ks ≡ true
   unfolding reaches_any
+  any_in go j k [] c h = elim c [ ]
   any_in go j k (x ∷ ks) (first e) h = ap (λ (z : Bool). z || reaches_any go j ks) (subst (λ (z : ℕ). (eqb z j || go z) ≡ true) e h)
   any_in go j k (x ∷ ks) (later m) h = or_right (eqb x j || go x) (reaches_any go j ks) (any_in go j k ks m h)
 
   pub walk_reaches : (f : ℕ) {i j : ℕ} {l : List ℕ} → Walk ms i l → In j l → length l ≤ f → reaches ms f i j ≡ true
   unfolding reaches
+  walk_reaches zero stay h k = elim h [ ]
   walk_reaches zero (step m w) h k = absurd (omega arith)
   walk_reaches (suc f) {i} {j} (step {j = x} {l = l} m w) (first e) k =
       any_in (λ x. reaches ms f x j) j x (uses ms i) m (ap (λ (z : Bool). z || reaches ms f x j) (eq-eqb x j (sym e)))
   walk_reaches (suc f) {i} {j} (step {j = x} {l = l} m w) (later h) k =
       any_in (λ x. reaches ms f x j) j x (uses ms i) m (or_right (eqb x j) (reaches ms f x j) (walk_reaches f w h (omega arith)))
+  walk_reaches (suc f) stay h k = elim h [ ]
 
   -- a walk that comes back shows a macro that reaches itself
   no_return : (i : ℕ) (l : List ℕ) → ((j : ℕ) → j < length ms → reaches ms (length ms) j j ≡ false) → Below (length ms) (i ∷ l) → Walk ms i l → length l ≤ length ms → Twice (i ∷ l) → ⊥
@@ -145,6 +149,7 @@ module _ (ms : List Macro) where
 
   longest_in : (go : ℕ → ℕ) (j : ℕ) (ks : List ℕ) → In j ks → go j ≤ longest go ks
   unfolding longest
+  longest_in go j [] h = elim h [ ]
   longest_in go j (k ∷ ks) (first e) = let q : go j ≡ go k = ap go e in omega arith
   longest_in go j (k ∷ ks) (later m) = let q : go j ≤ longest go ks = longest_in go j ks m in omega arith
 

@@ -8,11 +8,11 @@ use lib.Dec.{eqb}
 use Rattle.lex.specs.Tokens.{name_of}
 use Rattle.lex.proofs.Tests.{by_test}
 use Rattle.definition.specs.Definitions.{Macro, good, definition_at}
-use Rattle.finding.specs.Stores.{no_macro, macro_at}
+use Rattle.store.specs.Stores.{no_macro, macro_at}
 use Rattle.genuine.specs.Fitness.{all_fit}
 use Rattle.genuine.proofs.Fitting.{good_fit}
-use Rattle.starts.specs.Starting.{started}
-use Rattle.starts.proofs.Each.{Each, each_none, each_get, each_define, each_undefine, each_started, Fit, fit_each, each_fit}
+use Rattle.macros.specs.Starting.{started}
+use Rattle.macros.proofs.Each.{Each, each_none, each_get, each_define, each_undefine, each_started, Fit, fit_each, each_fit}
 use Rattle.macros.proofs.Kept.{started_sound}
 use Rattle.handover.specs.Sizes.{HandOver, Rooms, is_sound}
 use Rattle.handover.proofs.Laws.{sound_facts}

@@ -5,8 +5,8 @@ use mathlib.Core.Bool.{true, false}
 use mathlib.Core.Path.{◌≡◌}
 use mathlib.Core.List.{List, [], ◌∷◌, ◌++◌}
 use Rattle.definition.specs.Definitions.{Parameter, Macro}
-use Rattle.finding.specs.Stores.{macro_at, find}
-use Rattle.finding.specs.declared.Found.TheVariants.{At}
+use Rattle.store.specs.Stores.{macro_at, find}
+use Rattle.store.specs.declared.Found.TheVariants.{At}
 use Rattle.pending.specs.Pending.{View, calls, is_call}
 use Rattle.replace.specs.Replacing.{enough}
 use Rattle.passing.specs.Passing.{formals_of}

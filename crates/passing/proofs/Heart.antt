@@ -13,18 +13,16 @@ use Rattle.lex.specs.declared.Token.{Token}
 use Rattle.lex.proofs.Tests.{by_test, and_left, and_right, true_false}
 use Rattle.definition.specs.Definitions.{Parameter, Macro, macro}
 use Rattle.sets.specs.Sets.{elem, insert_asc}
-use Rattle.finding.specs.Stores.{macro_at, find}
-use Rattle.finding.specs.declared.Found.{Found}
-use Rattle.finding.specs.declared.Found.TheVariants.{At, Missing}
+use Rattle.store.specs.Stores.{macro_at, find}
+use Rattle.store.specs.declared.Found.{Found}
+use Rattle.store.specs.declared.Found.TheVariants.{At, Missing}
 use Rattle.store.proofs.Ordering.{find_at_lt}
 use Rattle.writing.specs.Written.{Room}
 use Rattle.pending.specs.Pending.{Pending, file_tokens, file_from, is_call, view}
-use Rattle.pending.specs.Spelled.{Outer}
 use Rattle.arguments.specs.Arguments.{Args, bad, args, seek}
 use Rattle.arguments.proofs.Collecting.{part_due}
-use Rattle.replace.specs.Replacing.{Got, got, enough, Listed, listed, accepted, list_for, with_list, replace_by, replace}
-use Rattle.called.specs.Expansions.{on_got, onward}
-use Rattle.expand.specs.Expanding.{first, expand}
+use Rattle.replace.specs.Replacing.{Got, got, refused, enough, Listed, barred, listed, accepted, list_for, with_list, replace_by, replace}
+use Rattle.expand.specs.Expanding.{Outer, on_got, onward, first, expand}
 use Rattle.passing.specs.Passing.{formals_of, yes, pass_of}
 use Rattle.passing.specs.Chains.{chain, no_usage, no_usages, quiet, tame_by, tame, chain_by, chain_from}
 use Rattle.passing.specs.Meeting.{Soft}
@@ -110,6 +108,7 @@ module _ (ms : List Macro) (h : ℕ) where
       list_going n fs t p (listed xs r) (valued vs) =
           put-in ms h pass sound i [] stored u fs (text_of (insert_asc i []) (macro n fs t)) xs [] r p.defaults p.text vs
           (record { fine = fine_nil; each = all_nil })
+      list_going n fs t p (barred _ _) h = elim h [ ]
 
       macro_going : (m : Macro) → Part ms h pass sound i [] stored u m → (ps : List Pending) → All Bare ps → quiet (list_for (formals_of m) ps) ≡ true
           → Going ms h [] (replace_by m (insert_asc i []) ps)
@@ -123,6 +122,7 @@ module _ (ms : List Macro) (h : ℕ) where
 
     going_calm : (n : ℕ) (o : Outer) (r : Room) (g : Got) → Going ms h [] g → Calm h (on_got (λ q rest r'. onward n o ms q [] r') r g)
     going_calm n o r (got q rest) (going a k) = onward_calm ms h pass sound n o q [] r a k
+    going_calm n o r (refused _ _) h = elim h [ ]
 
 under_none : (ms : List Macro) (i : ℕ) → Under ms (chain ms i) i []
 unfolding elem

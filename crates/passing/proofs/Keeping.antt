@@ -14,9 +14,8 @@ use Rattle.definition.specs.Definitions.{Parameter, parameter, Macro}
 use Rattle.pending.specs.Pending.{Pending, is_spacing, text_token, text_tokens, View, is_call, view}
 use Rattle.arguments.specs.Arguments.{args}
 use Rattle.arguments.proofs.Collecting.{part_due}
-use Rattle.tidying.specs.Tidying.{cleaned, before_newline, is_backslash, cleaned_all, drop_left, keep_last, drop_right, tidy, tidy_all}
-use Rattle.values.specs.Values.{fallback}
-use Rattle.replace.specs.Replacing.{image_of, in_place}
+use Rattle.replace.specs.Tidying.{cleaned, before_newline, is_backslash, cleaned_all, drop_left, keep_last, drop_right, tidy, tidy_all}
+use Rattle.replace.specs.Replacing.{fallback, image_of, in_place}
 use Rattle.passing.specs.Chains.{no_usage}
 use Rattle.passing.proofs.Lists.{views, Shut, done, more, Listed, Collected, ended, pushed, cut, listed_inside, close_none}
 use Rattle.passing.proofs.Reading.{read, Sought, there, here}

@@ -155,6 +155,7 @@ pushed_at {p} {due = due} {d = d} (cut e c) h = keep_part (move_of (view p) due)
 -- a list that begins within an argument ends within it
 pub counted_inside : (ps : List Pending) (e due u : List ℕ) {a : List Pending} {xs : List (List Pending)} {r : List Pending} {n : ℕ}
     → u ≡ e ++ (41 ∷ due) → Collected ps u a xs r → Counted (views ps) e n → Counted (views a) e n
+counted_inside [] e due u q c _ = elim c [ ]
 counted_inside (p ∷ ps) e due u {xs = xs} {r = r} q c (last h) =
     let k = pushed_at c (ap (move_of (view p)) q ∙ move_close (view p) e due h) in
     subst (λ z. Counted (views z) e 1) (sym k.eq) (last h)
@@ -167,6 +168,7 @@ counted_inside (p ∷ ps) e due u q c (parted {n = m} h g) =
 
 pub listed_inside : (ps : List Pending) {due : List ℕ} {a : List Pending} {xs : List (List Pending)} {r : List Pending} {n : ℕ}
     → Collected ps due a xs r → Listed (views ps) n → Listed (views a) n
+listed_inside [] c _ = elim c [ ]
 listed_inside (p ∷ ps) {due = due} {n = n} c (skip e l) =
     let k = pushed_at c (ap (λ v. move_of v due) e) in
     subst (λ z. Listed (views z) n) (sym k.eq) (skip e (listed_inside ps k.rest l))

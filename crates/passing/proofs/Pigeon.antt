@@ -26,6 +26,7 @@ others n (x ∷ l) = cond (eqb x n) (others n l) (x ∷ others n l)
 
 in_others : (n y : ℕ) (l : List ℕ) → In y (others n l) → In y l
 unfolding others
+in_others n y [] h = elim h [ ]
 in_others n y (x ∷ l) h = go (eqb x n) h (in_others n y l)
   where
     grow : In y (x ∷ others n l) → (In y (others n l) → In y l) → In y (x ∷ l)
@@ -38,6 +39,7 @@ in_others n y (x ∷ l) h = go (eqb x n) h (in_others n y l)
 
 twice_others : (n : ℕ) (l : List ℕ) → Twice (others n l) → Twice l
 unfolding others
+twice_others n [] h = elim h [ ]
 twice_others n (x ∷ l) h = go (eqb x n) h (twice_others n l)
   where
     grow : Twice (x ∷ others n l) → (Twice (others n l) → Twice l) → Twice (x ∷ l)

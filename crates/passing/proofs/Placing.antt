@@ -12,8 +12,7 @@ use Rattle.definition.specs.Definitions.{Parameter, parameter}
 use Rattle.pending.specs.Pending.{Pending, text_token, text_tokens, View, names, is_call, view}
 use Rattle.pending.proofs.Viewing.{by_name}
 use Rattle.arguments.specs.Arguments.{keep, move_of}
-use Rattle.values.specs.Values.{fallback, or_else}
-use Rattle.replace.specs.Replacing.{value, instead, image_of, in_place}
+use Rattle.replace.specs.Replacing.{fallback, or_else, value, instead, image_of, in_place}
 use Rattle.passing.proofs.Lists.{views, keep_close, keep_part, keep_same, Counted, last, kept, parted, Shut, Listed, skip, opened, counted_shut}
 
 -- ---- views of joined lists, and of the tokens of a text
@@ -61,12 +60,14 @@ module _ (f : List ℕ → Option (List Pending)) (ok : (w : List ℕ) (a : List
 
   pub counted_placed : (ps : List Pending) {due : List ℕ} {n : ℕ} → Counted (views ps) due n → Counted (views (in_place f ps ++ rest)) due n
   unfolding in_place
+  counted_placed [] c = elim c [ ]
   counted_placed (p ∷ ps) {due} {n} c =
       subst (λ (z : List View). Counted z due n) (sym (views_join (image_of (view p) p f) (in_place f ps) rest))
       (counted_image p ps (image_of (view p) p f) (image-of f p) (λ d m g. counted_placed ps g) c)
 
   pub listed_placed : (ps : List Pending) {n : ℕ} → Listed (views ps) n → Listed (views (in_place f ps ++ rest)) n
   unfolding in_place
+  listed_placed [] h = elim h [ ]
   listed_placed (p ∷ ps) {n} (skip e l) =
       subst (λ (v : View). Listed (views ((image_of v p f ++ in_place f ps) ++ rest)) n) (sym e) (skip e (listed_placed ps l))
   listed_placed (p ∷ ps) {n} (opened e c) =

@@ -85,6 +85,7 @@ module _ (ms : List Macro) where
 
   -- up to where j first stands
   walk_path : {i j : ℕ} {l : List ℕ} → Walk ms i l → In j l → Within i j (length l)
+  walk_path stay h = elim h [ ]
   walk_path {i} {j} (step {j = k} {l = l} m w) (first e) =
       record { nodes = j ∷ []; path = arrive (subst (λ (x : ℕ). In x (uses ms i)) (sym e) m); size = omega arith }
   walk_path {i} {j} (step {j = k} {l = l} m w) (later h) = within_step (length l) m (walk_path w h)

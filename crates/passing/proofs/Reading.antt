@@ -53,6 +53,7 @@ sized_split (sized e) = sized (ap suc e)
 
 pub collect_counted : (ps : List Pending) {due : List ℕ} {n : ℕ} → Counted (views ps) due n → Sized (collect ps due) n
 unfolding collect
+collect_counted [] h = elim h [ ]
 collect_counted (p ∷ ps) (last h) = subst (λ m. Sized (after m p ps (λ d. collect ps d)) 1) (sym h) (sized refl)
 collect_counted (p ∷ ps) {n = n} (kept d h c) = subst (λ m. Sized (after m p ps (λ d. collect ps d)) n) (sym h) (sized_push p (collect_counted ps c))
 collect_counted (p ∷ ps) (parted {n = m} h c) = subst (λ z. Sized (after z p ps (λ d. collect ps d)) (suc m)) (sym h) (sized_split (collect_counted ps c))
@@ -88,5 +89,6 @@ sought_listed (here e (read c)) = opened e (counted_of c)
 
 pub seek_listed : (ps : List Pending) {n : ℕ} → Listed (views ps) n → Sized (seek ps) n
 unfolding seek
+seek_listed [] h = elim h [ ]
 seek_listed (p ∷ ps) {n} (skip e l) = subst (λ v. Sized (seek_by v (collect ps []) (seek ps)) n) (sym e) (seek_listed ps l)
 seek_listed (p ∷ ps) {n} (opened e c) = subst (λ v. Sized (seek_by v (collect ps []) (seek ps)) n) (sym e) (collect_counted ps c)

@@ -16,18 +16,17 @@ use Rattle.lex.specs.declared.Token.{Token}
 use Rattle.lex.proofs.Tests.{by_test, true_false}
 use Rattle.definition.specs.Definitions.{Parameter, Macro, macro}
 use Rattle.sets.specs.Sets.{elem, insert_asc}
-use Rattle.finding.specs.Stores.{macro_text, macro_at, find}
-use Rattle.finding.specs.declared.Found.{Found}
-use Rattle.finding.specs.declared.Found.TheVariants.{At, Missing}
+use Rattle.store.specs.Stores.{macro_text, macro_at, find}
+use Rattle.store.specs.declared.Found.{Found}
+use Rattle.store.specs.declared.Found.TheVariants.{At, Missing}
 use Rattle.store.proofs.Ordering.{find_at_lt}
 use Rattle.writing.specs.Written.{Written, placed, map_of, Room, Put, full, fitted, put_in}
 use Rattle.pending.specs.Pending.{Pending, text_token, text_tokens, View, calls, is_comment, is_call, view}
-use Rattle.pending.specs.Spelled.{Outer, writes}
 use Rattle.pending.proofs.Viewing.{by_usage}
-use Rattle.arguments.specs.Arguments.{Args, args, seek}
-use Rattle.tidying.specs.Tidying.{cleaned, tidy_all}
-use Rattle.replace.specs.Replacing.{value, in_place, Got, got, enough, Listed, listed, accepted, list_for, with_list, replace_by, replace_at, replace, deepest}
-use Rattle.called.specs.Expansions.{Expansion, ends, Next, on_got, on_put, walk, onward}
+use Rattle.arguments.specs.Arguments.{Args, bad, args, seek}
+use Rattle.replace.specs.Tidying.{cleaned, tidy_all}
+use Rattle.replace.specs.Replacing.{value, in_place, Got, got, refused, enough, Listed, barred, listed, accepted, list_for, with_list, replace_by, replace_at, replace, deepest}
+use Rattle.expand.specs.Expanding.{Outer, writes, Expansion, ends, Next, on_got, on_put, walk, onward}
 use Rattle.passing.specs.Passing.{formals_of, used_by, uses_of, uses_in, uses, yes, pass_of}
 use Rattle.passing.specs.Chains.{chain}
 use Rattle.passing.specs.Meeting.{Soft, whole, pending_list, limit, text_room, map_room}
@@ -132,6 +131,7 @@ module _ (ms : List Macro) (h : ℕ) where
       by_test Given (enough fs (length (a ∷ xs)))
       (λ d. given (all_cons t.first t.others) (record { fine = t.rest_fine; each = t.rest_each }))
       (λ d. true_false (enough fs (length (a ∷ xs))) (subst (λ (n : ℕ). enough fs n ≡ true) (sym e) k) d)
+  given_sized fs ps (bad _ _) h s k f = elim h [ ]
 
   given_for : (fs : List Parameter) (ps : List Pending) → Needs fs (views ps) → Ready ms h ps → Given (list_for fs ps)
   given_for [] ps needs_none f = given all_nil f
@@ -227,6 +227,7 @@ module _ (ms : List Macro) (h : ℕ) where
 
       list_gone : (n : List ℕ) (fs : List Parameter) (t : List ℕ) → Part (macro n fs t) → (l : Listed) → Given l → Gone (with_list (insert_asc i s) fs t l)
       list_gone n fs t p (listed xs r) (given vs a) = gone (put-in fs (text_of (insert_asc i s) (macro n fs t)) xs r r p.defaults p.text vs a)
+      list_gone n fs t p (barred _ _) h = elim h [ ]
 
       macro_gone : (m : Macro) → Part m → (ps : List Pending) → Needs (formals_of m) (views ps) → Ready ms h ps → Gone (replace_by m (insert_asc i s) ps)
       macro_gone (macro n fs t) p ps k f = list_gone n fs t p (list_for fs ps) (given_for fs ps k f)
@@ -250,6 +251,7 @@ module _ (ms : List Macro) (h : ℕ) where
     module _ (next : Next) (ih : (q rest : List Pending) (r : Room) → All (High ms h) q → Ready ms h (q ++ rest) → Calm h (next q rest r)) (o : Outer) where
       got_calm : (r : Room) (g : Got) → Gone g → Calm h (on_got next r g)
       got_calm r (got q rest) (gone (going a k)) = ih q rest r a k
+      got_calm r (refused _ _) h = elim h [ ]
 
       walk_calm : (ps : List Pending) (r : Room) → Fine ms (views ps) → All (High ms h) ps → Calm h (walk next o ms r ps)
       unfolding walk

@@ -21,15 +21,14 @@ use Rattle.lex.proofs.Listing.{by_tokens}
 use Rattle.brackets.specs.Steps.{Step, on, done, torn, step_of}
 use Rattle.afresh.specs.Unfit.{is_accented, held_by, unless, is_unfit, unfit_held, unfit_default}
 use Rattle.definition.specs.Definitions.{Parameter, parameter, Macro, macro}
-use Rattle.finding.specs.Stores.{macro_at}
-use Rattle.checks.specs.Checks.{is_trimmed}
-use Rattle.genuine.specs.Fitness.{fit_stored, fit_default, fit_formal, is_named, fit_parameters, fit_name, fit_macro, all_fit}
+use Rattle.store.specs.Stores.{macro_at}
+use Rattle.genuine.specs.Fitness.{is_trimmed, fit_stored, fit_default, fit_formal, is_named, fit_parameters, fit_name, fit_macro, all_fit}
 use Rattle.genuine.proofs.Tests.{or_left, or_right, passed}
 use Rattle.pending.specs.Pending.{text_token, text_tokens, View, blanks, names, plain, byte_view, is_blank, kind_view, is_call, view}
 use Rattle.arguments.specs.Arguments.{keep, move_of}
 use Rattle.arguments.proofs.Moves.{step_keeps}
-use Rattle.values.specs.Values.{fallback}
-use Rattle.called.proofs.Naming.{byte_quiet}
+use Rattle.replace.specs.Replacing.{fallback}
+use Rattle.expand.proofs.Naming.{byte_quiet}
 use Rattle.passing.specs.Passing.{formals_of}
 use Rattle.passing.specs.Chains.{no_usage}
 use Rattle.passing.proofs.Lists.{views, Shut, done as shut-done, more}

@@ -15,7 +15,7 @@ use Rattle.pending.specs.Pending.{Pending, View, blanks, opens, plain, byte_view
 use Rattle.pending.proofs.Viewing.{free_bar}
 use Rattle.arguments.specs.Arguments.{keep, close, move_of}
 use Rattle.arguments.proofs.Moves.{stays_free}
-use Rattle.tidying.specs.Tidying.{cleaned, before_newline, is_backslash, cleaned_all, drop_left, keep_last, drop_right}
+use Rattle.replace.specs.Tidying.{cleaned, before_newline, is_backslash, cleaned_all, drop_left, keep_last, drop_right}
 use Rattle.passing.proofs.Lists.{views, keep_close, keep_part, keep_fail, keep_same, Counted, last, kept, parted, Shut, more, Listed, skip, opened}
 
 -- ---- cleaning
@@ -103,6 +103,7 @@ shut_cleaned (p ∷ ps) {due} (more d h k) = go (is_backslash p && before_newlin
 
 pub counted_cleaned : (ps : List Pending) {due : List ℕ} {n : ℕ} → Counted (views ps) due n → Counted (views (cleaned_all ps)) due n
 unfolding cleaned_all
+counted_cleaned [] h = elim h [ ]
 counted_cleaned (p ∷ ps) {due} (last h) = go (is_backslash p && before_newline ps) refl
   where
     u : eqb p.bar 0 ≡ true
@@ -130,6 +131,7 @@ counted_cleaned (p ∷ ps) {due} (parted {n = m} h c) = go (is_backslash p && be
 
 pub listed_cleaned : (ps : List Pending) {n : ℕ} → Listed (views ps) n → Listed (views (cleaned_all ps)) n
 unfolding cleaned_all
+listed_cleaned [] h = elim h [ ]
 listed_cleaned (p ∷ ps) {n} (skip e l) = go (is_backslash p && before_newline ps) refl (listed_cleaned ps l)
   where
     u : eqb p.bar 0 ≡ true
@@ -193,6 +195,7 @@ listed_some (opened e c) = tt
 
 pub counted_right : (ps : List Pending) {due : List ℕ} {n : ℕ} → Counted (views ps) due n → Counted (views (drop_right ps)) due n
 unfolding drop_right
+counted_right [] h = elim h [ ]
 counted_right (p ∷ ps) {due} (last h) = go (drop_right ps)
   where
     one : (b : Bool) → is_spacing p.kind ≡ b → Counted (views (cond b [] (p ∷ []))) due 1
@@ -215,6 +218,7 @@ counted_right (p ∷ ps) {due} (parted {n = m} h c) = go (drop_right ps) (counte
 
 pub listed_right : (ps : List Pending) {n : ℕ} → Listed (views ps) n → Listed (views (drop_right ps)) n
 unfolding drop_right
+listed_right [] h = elim h [ ]
 listed_right (p ∷ ps) {n} (skip e l) = go (drop_right ps) (listed_right ps l)
   where
     go : (qs : List Pending) → Listed (views qs) n → Listed (views (keep_last p qs)) n

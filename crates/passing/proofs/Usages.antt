@@ -9,9 +9,9 @@ use mathlib.Core.Option.{Option, none, some}
 use mathlib.Core.List.{List, [], ◌∷◌, ◌++◌}
 use lib.ListN.{length}
 use Rattle.definition.specs.Definitions.{Parameter, Macro}
-use Rattle.finding.specs.Stores.{macro_at, find}
-use Rattle.finding.specs.declared.Found.{Found}
-use Rattle.finding.specs.declared.Found.TheVariants.{At, Missing}
+use Rattle.store.specs.Stores.{macro_at, find}
+use Rattle.store.specs.declared.Found.{Found}
+use Rattle.store.specs.declared.Found.TheVariants.{At, Missing}
 use Rattle.pending.specs.Pending.{Pending, View, calls, is_call, view}
 use Rattle.pending.proofs.Viewing.{by_usage}
 use Rattle.arguments.specs.Arguments.{Args, bad, args, seek}
@@ -78,6 +78,7 @@ module _ (ms : List Macro) where
         rest = r;
         taken = ap (accepted (f ∷ fs)) q ∙ ap (λ (b : Bool). cond b (listed (a ∷ xs) r) (barred 15 0)) (subst (λ (n : ℕ). enough (f ∷ fs) n ≡ true) (sym e) k);
       }
+  taken_sized f fs ps (bad _ _) q h k = elim h [ ]
 
   taken_needs : (fs : List Parameter) (ps : List Pending) → Needs fs (views ps) → Taken fs ps
   taken_needs [] ps needs_none = record { arguments = []; rest = ps; taken = refl }

@@ -6,7 +6,7 @@ use mathlib.Core.List.{List}
 use mathlib.Core.Path.{◌≡◌, refl, ap, sym, subst, ◌∙◌}
 use native.Mathlib.Omega.{arith}
 use Rattle.lex.proofs.Tests.{by_test}
-use Rattle.finding.specs.Stores.{macro_at}
+use Rattle.store.specs.Stores.{macro_at}
 use Rattle.handover.specs.Entries.{all_entries}
 use Rattle.handover.specs.Sizes.{HandOver, Rooms, is_sound}
 use Rattle.handover.proofs.Laws.{sound_facts}

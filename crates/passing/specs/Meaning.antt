@@ -4,8 +4,8 @@ use Rattle.std.specs.Prelude.{ℕ, ◌<◌, ◌≤◌, ◌≡◌, length}
 use Rattle.std.proofs.Math.Option.{none, some}
 use mathlib.Core.List.{List, [], ◌∷◌, ◌++◌, Memᴰ as In}
 use Rattle.definition.specs.Definitions.{Macro}
-use Rattle.finding.specs.Stores.{macro_at, find}
-use Rattle.finding.specs.declared.Found.TheVariants.{At}
+use Rattle.store.specs.Stores.{macro_at, find}
+use Rattle.store.specs.declared.Found.TheVariants.{At}
 use Rattle.pending.specs.Pending.{Pending, calls, view}
 use Rattle.replace.specs.Replacing.{listed, list_for}
 use Rattle.passing.specs.Passing.{formals_of, text_at, uses, macro_fault}

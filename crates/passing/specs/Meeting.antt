@@ -5,8 +5,7 @@ use Rattle.lex.specs.Tokens.{Grave, is, name_of}
 use Rattle.names.specs.Names.{directive_of}
 use Rattle.pending.specs.Pending.{file_from}
 use Rattle.blocks.specs.Blocks.{taken_by}
-use Rattle.called.specs.Expansions.{Expansion}
-use Rattle.expand.specs.Expanding.{first, goes_on, expand}
+use Rattle.expand.specs.Expanding.{Expansion, first, goes_on, expand}
 use Rattle.handover.specs.Sizes.{HandOver, Rooms, is_sound}
 use Rattle.turns.specs.States.{Context, Frame, State, Made, Here}
 use Rattle.turns.specs.Usages.{outer_of, after_usage}

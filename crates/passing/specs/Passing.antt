@@ -4,9 +4,9 @@ use Rattle.std.specs.Prelude.{ℕ, zero, suc, Bool, false, cond, ◌||◌, List,
 use Rattle.std.proofs.Math.Option.{Option, none, some}
 use Rattle.lex.specs.Tokens.{in_text, tokens}
 use Rattle.definition.specs.Definitions.{Parameter, Macro, macro}
-use Rattle.finding.specs.Stores.{macro_text, macro_at, find}
-use Rattle.finding.specs.declared.Found.{Found}
-use Rattle.finding.specs.declared.Found.TheVariants.{At, Missing}
+use Rattle.store.specs.Stores.{macro_text, macro_at, find}
+use Rattle.store.specs.declared.Found.{Found}
+use Rattle.store.specs.declared.Found.TheVariants.{At, Missing}
 use Rattle.pending.specs.Pending.{Pending, text_tokens, View, on_usage, view}
 use Rattle.replace.specs.Replacing.{Listed, barred, listed, list_for}
 

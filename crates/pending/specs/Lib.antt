@@ -2,4 +2,3 @@ pub mod Pending
 pub mod References
 pub mod Sources
 pub mod Adding
-pub mod Spelled

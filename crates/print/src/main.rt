@@ -1,7 +1,7 @@
 // The printing program (document 01): the flat text, its map and its words of the files on standard input.
 #![tactic(auto)]
 
-use libc::STDIN_FILENO;
+use formats::STDIN_FILENO;
 
 // The input is one byte longer than is taken, so that a longer one shows.
 fn main() {

@@ -19,8 +19,8 @@ use Rattle.settings.specs.declared.Settings.{Settings}
 use Rattle.writing.specs.Written.{Written, placed, Room, Put, full, fitted, put_in}
 use Rattle.places.specs.Places.{place_of}
 use Rattle.blocks.specs.Blocks.{Conditional, taken_by}
-use Rattle.cursor.specs.declared.Cursor.{Cursor}
-use Rattle.cursor.specs.Cursors.{stops_at, cursor_past}
+use Rattle.copying.specs.declared.Cursor.{Cursor}
+use Rattle.copying.specs.Cursors.{stops_at, cursor_past}
 use Rattle.copying.specs.Copying.{token_on, copy_of, Copies, Skips}
 use Rattle.handover.specs.Entries.{body_of}
 use Rattle.turns.specs.States.{Context, Frame, nothing, writes, more, stop, Here, refuse, frames_at, on_put, place_here}

@@ -17,8 +17,7 @@ use Rattle.names.specs.Names.{Ifdef, Endif, directive_of}
 use Rattle.definition.specs.Definitions.{Macro}
 use Rattle.settings.specs.declared.Settings.{Settings}
 use Rattle.settings.specs.Settings.{reset_to}
-use Rattle.finding.specs.Buffers.{Holds}
-use Rattle.entries.specs.Entries.{Stored}
+use Rattle.store.specs.Buffers.{Holds, Stored}
 use Rattle.writing.specs.Written.{Room}
 use Rattle.writing.specs.Buffers.{room_of}
 use Rattle.writing.specs.declared.Spot.{Spot}
@@ -27,11 +26,11 @@ use Rattle.places.specs.Places.{place_of}
 use Rattle.blocks.specs.Stacks.{open_in, BlocksIn}
 use Rattle.blocks.specs.declared.Blocks.{Blocks}
 use Rattle.handover.specs.Entries.{body_of}
-use Rattle.cursor.specs.Cursors.{stops_at, cursor_behind}
+use Rattle.copying.specs.Cursors.{stops_at, cursor_behind}
 use Rattle.copying.specs.Copying.{token_on, Copyable, CopiesTo}
 use Rattle.copying.specs.declared.Copied.{Copied}
 use Rattle.copying.specs.declared.Copied.TheVariants as copied
-use Rattle.cursor.specs.declared.Cursor.{Cursor}
+use Rattle.copying.specs.declared.Cursor.{Cursor}
 use Rattle.turns.specs.States.{Context, Frame, Here}
 use Rattle.turns.specs.Acts.{conditional_act}
 use Rattle.turns.specs.Performing.{perform}

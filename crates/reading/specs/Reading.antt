@@ -12,11 +12,11 @@ use Rattle.writing.specs.declared.Spot.{Spot}
 use Rattle.places.specs.Places.{place_of}
 use Rattle.blocks.specs.Stacks.{open_in, BlocksIn}
 use Rattle.blocks.specs.declared.Blocks.{Blocks}
-use Rattle.cursor.specs.Cursors.{stops_at}
+use Rattle.copying.specs.Cursors.{stops_at}
 use Rattle.copying.specs.Copying.{token_on, Skips, Reads, Copyable, CopiedBy}
 use Rattle.copying.specs.declared.Copied.{Copied}
 use Rattle.copying.specs.declared.Copied.TheVariants as copied
-use Rattle.cursor.specs.declared.Cursor.{Cursor}
+use Rattle.copying.specs.declared.Cursor.{Cursor}
 use Rattle.turns.specs.States.{Context, Frame, stop, nothing}
 use Rattle.turns.specs.Turns.{turn_at}
 use Rattle.turns.specs.Leading.{Leads, standing}

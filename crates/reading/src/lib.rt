@@ -3,8 +3,7 @@
 
 ghost use Rattle.std.specs.Prelude.{◌≡◌, true, false, List, ℕ, ◌≤◌};
 ghost use Rattle.definition.specs.Definitions.{Macro};
-ghost use Rattle.finding.specs.Buffers.{Holds};
-ghost use Rattle.entries.specs.Entries.{Stored};
+ghost use Rattle.store.specs.Buffers.{Holds, Stored};
 ghost use Rattle.settings.specs.declared.Settings.{Settings};
 ghost use Rattle.places.specs.Places.{place_of};
 ghost use Rattle.blocks.specs.Stacks.{BlocksIn};
@@ -15,8 +14,7 @@ ghost use Rattle.reading.specs.Reading.{StaysBy, ReachedBy, PassedBy};
 
 use blocks::Blocks;
 use choosing::{Chosen, choose};
-use copying::{Copied, copy_tokens, skip_tokens};
-use cursor::Cursor;
+use copying::{Copied, Cursor, copy_tokens, skip_tokens};
 use lex::Token;
 use names::{ENDIF, IFDEF, directive_of};
 use places::place_of;

@@ -1,3 +1,15 @@
 pub mod Testing
 pub mod Rec
+pub mod Again
+pub mod Calling
 pub mod Shift
+pub mod UpTo
+pub mod Tables
+pub mod Few
+pub mod Behind
+pub mod Loaded
+pub mod Shown
+pub mod Passed
+pub mod Filling
+pub mod Keeping
+pub mod Turns

@@ -1,7 +1,7 @@
 // What the command says of a flattening: its refusal with the source line, or a summary.
 #![tactic(auto)]
 
-use flattened::Flattened;
+use flatten::Flattened;
 use handover::is_sound;
 use messages::{complain, say, say_number, say_refusal, say_refused};
 use plan::path_at;

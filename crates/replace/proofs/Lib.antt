@@ -1,3 +1,9 @@
+pub mod Tidying
+pub mod Trimming
+pub mod Keeping
 pub mod Formals
+pub mod Values
 pub mod Stacking
 pub mod Texts
+pub mod Again
+pub mod Ready

@@ -29,12 +29,10 @@ use Rattle.pending.specs.Pending.{Pending, View, names, is_blank, kind_view, vie
 use Rattle.pending.specs.References.{pending_by}
 use Rattle.pending.specs.Adding.{Adds, AddsBy}
 use Rattle.pending.proofs.Adding.{adds_none, adds_then, adds_full_behind}
-use Rattle.values.specs.Values.{or_else}
-use Rattle.values.specs.Placing.{FormalsAt, stored_ref}
-use Rattle.values.proofs.Values.{stored_token}
 use Rattle.replace.specs.declared.Which.{Which}
-use Rattle.replace.specs.Replacing.{value, instead, image_of, image_in, in_place, text_with}
-use Rattle.replace.specs.Placing.{formal_index, WhichIs, Images}
+use Rattle.replace.specs.Replacing.{or_else, value, instead, image_of, image_in, in_place, text_with}
+use Rattle.replace.specs.Placing.{FormalsAt, formal_index, WhichIs, stored_ref, Images}
+use Rattle.replace.proofs.Values.{stored_token}
 
 -- ---- what takes the place of a name
 

@@ -3,16 +3,25 @@
 use Rattle.std.specs.Prelude.{ℕ, zero, suc, max, Bool, true, false, cond, ◌&&◌, List, [], ◌∷◌, ◌++◌, length}
 use Rattle.std.proofs.Math.Option.{Option, none, some}
 use Rattle.text.specs.Bytes.{same}
-use Rattle.lex.specs.Tokens.{in_text, tokens}
+use Rattle.lex.specs.Tokens.{in_file, in_text, tokens}
 use Rattle.definition.specs.Definitions.{Parameter, parameter, Macro, macro}
 use Rattle.sets.specs.Sets.{elem, insert_asc}
-use Rattle.finding.specs.Stores.{macro_at, find}
-use Rattle.finding.specs.declared.Found.{Found}
-use Rattle.finding.specs.declared.Found.TheVariants.{At, Missing}
+use Rattle.store.specs.Stores.{macro_at, find}
+use Rattle.store.specs.declared.Found.{Found}
+use Rattle.store.specs.declared.Found.TheVariants.{At, Missing}
 use Rattle.pending.specs.Pending.{Pending, text_tokens, View, view, on_name}
 use Rattle.arguments.specs.Arguments.{Args, bad, args, seek}
-use Rattle.tidying.specs.Tidying.{tidy_all}
-use Rattle.values.specs.Values.{fallback, or_else}
+use Rattle.replace.specs.Tidying.{tidy_all}
+
+-- a default's tokens carry "the usage's set and the macro"
+abbrev pub fallback : List ℕ → Option (List ℕ) → List Pending
+fallback set none = []
+fallback set (some d) = text_tokens d set (tokens in_file d 0)
+
+-- "An empty argument takes the default, else nothing"
+abbrev pub or_else : List ℕ → Option (List ℕ) → List Pending → List Pending
+or_else set d [] = fallback set d
+or_else set d (p ∷ ps) = p ∷ ps
 
 -- what takes the place of the name w, if it is a formal's
 unfoldable pub value : List ℕ → List Parameter → List (List Pending) → List ℕ → Option (List Pending)

@@ -1,7 +1,7 @@
 // Whether two definitions of a macro say the same.
 ghost use Rattle.std.specs.Prelude.{◌<◌};
 
-use formals::{extent_at, head_at};
+use definition::{extent_at, head_at};
 use lex::{END, Token, in_definition, is_gap, marks_after, token_at};
 use spots::past;
 use text::{part_of, same};

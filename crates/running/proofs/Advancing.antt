@@ -8,7 +8,7 @@ use native.Mathlib.Nat.{add-zero, add_assoc, max-zero}
 use native.Mathlib.Omega.{arith}
 use lib.ListN.{length, length-append, get_or}
 use Rattle.definition.specs.Definitions.{Macro}
-use Rattle.finding.specs.Buffers.{Holds}
+use Rattle.store.specs.Buffers.{Holds}
 use Rattle.writing.specs.Written.{Written, text_of, map_of, fresh_after}
 use Rattle.writing.specs.Buffers.{room_of, Puts}
 use Rattle.writing.specs.declared.Spot.{Spot}
@@ -18,7 +18,7 @@ use Rattle.blocks.specs.Stacks.{open_in, BlocksIn}
 use Rattle.blocks.proofs.Opening.{open_top}
 use Rattle.blocks.specs.declared.Blocks.{Blocks}
 use Rattle.handover.specs.Entries.{all_entries}
-use Rattle.cursor.specs.declared.Cursor.{Cursor}
+use Rattle.copying.specs.declared.Cursor.{Cursor}
 use Rattle.turns.specs.States.{Context, Frame, State, Made, writes, nothing, Turn, more, stop, finished}
 use Rattle.turns.specs.Turns.{token_turn, last_turn, frame_turn, turn_at}
 use Rattle.turns.specs.Leading.{Leads, standing}
@@ -27,12 +27,12 @@ use Rattle.turns.proofs.Progress.{turn_falls}
 use Rattle.turns.proofs.Running.{run_more, run_stop, run_finished, onto_nothing}
 use Rattle.turns.proofs.Leading.{leads_run, leads_falls}
 use Rattle.reading.specs.Reading.{ReadsTo}
-use Rattle.stage.specs.declared.Stage.{Stage}
-use Rattle.stage.specs.declared.Step.{Step}
-use Rattle.stage.specs.declared.Step.TheVariants as step
-use Rattle.stage.specs.Standing.{Bufs, bufs, outer_frames, open_frames, state_of, here_of, ended_at, reached_at, Ok, Fixed, is_end, SteppedBy}
+use Rattle.steps.specs.declared.stage.Stage.{Stage}
+use Rattle.steps.specs.declared.stage.Step.{Step}
+use Rattle.steps.specs.declared.stage.Step.TheVariants as step
+use Rattle.steps.specs.Standing.{Bufs, bufs, outer_frames, open_frames, state_of, here_of, ended_at, reached_at, Ok, Fixed, is_end, SteppedBy}
 use Rattle.dispatch.specs.Going.{Going}
-use Rattle.stage.proofs.Going.{open_first}
+use Rattle.steps.proofs.Going.{open_first}
 use Rattle.running.specs.Ending.{last_step, finish, ended, Advances, Finishes, AdvancedBy, AdvancesBy}
 
 -- the measure is of the store and the table alone

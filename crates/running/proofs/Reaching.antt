@@ -8,24 +8,23 @@ use native.Mathlib.Omega.{arith}
 use lib.ListN.{length}
 use Rattle.lex.specs.declared.Token.{Token}
 use Rattle.definition.specs.Definitions.{Macro}
-use Rattle.finding.specs.Buffers.{Holds}
-use Rattle.entries.specs.Entries.{Stored}
+use Rattle.store.specs.Buffers.{Holds, Stored}
 use Rattle.writing.specs.declared.Spot.{Spot}
 use Rattle.places.specs.Places.{place_of}
 use Rattle.blocks.specs.Stacks.{BlocksIn}
 use Rattle.blocks.specs.declared.Blocks.{Blocks}
 use Rattle.handover.specs.Entries.{all_entries, body_of}
 use Rattle.copying.specs.Copying.{Copyable}
-use Rattle.cursor.specs.declared.Cursor.{Cursor}
+use Rattle.copying.specs.declared.Cursor.{Cursor}
 use Rattle.turns.specs.States.{Context}
 use Rattle.turns.specs.Acts.{act_at}
 use Rattle.turns.specs.Turns.{token_turn}
 use Rattle.reading.specs.Reading.{Stays, Halts, ReachedBy, StaysBy}
 use Rattle.reading.specs.declared.Reached.{Reached}
 use Rattle.reading.specs.declared.Reached.TheVariants as reached
-use Rattle.stage.specs.declared.Stage.{Stage}
-use Rattle.stage.specs.declared.Step.{Step}
-use Rattle.stage.specs.Standing.{Bufs, bufs, outer_frames, here_of, ended_at, reached_at, Ok, Fixed, At, Performs}
+use Rattle.steps.specs.declared.stage.Stage.{Stage}
+use Rattle.steps.specs.declared.stage.Step.{Step}
+use Rattle.steps.specs.Standing.{Bufs, bufs, outer_frames, here_of, ended_at, reached_at, Ok, Fixed, At, Performs}
 use Rattle.dispatch.specs.Going.{Going, GoingIn}
 use Rattle.running.specs.Ending.{ReadFrom, AdvancedBy, AdvancesBy}
 use Rattle.running.proofs.Advancing.{Led, turn_here, stepped, read_led, advance_refused, fixed_on}

@@ -3,7 +3,7 @@
 use Rattle.std.specs.Prelude.{ℕ, max, ◌+◌, ◌<◌, ◌≡◌, List, [], ◌∷◌}
 use Rattle.std.proofs.lemmas.List.Edits.{sets}
 use Rattle.definition.specs.Definitions.{Macro}
-use Rattle.finding.specs.Buffers.{Holds}
+use Rattle.store.specs.Buffers.{Holds}
 use Rattle.settings.specs.declared.Settings.{Settings}
 use Rattle.writing.specs.Written.{text_of, map_of}
 use Rattle.writing.specs.Buffers.{spot_after}
@@ -14,10 +14,10 @@ use Rattle.turns.specs.States.{Context, Frame}
 use Rattle.turns.specs.Runs.{Run, measure, run_from}
 use Rattle.reading.specs.Reading.{ReachedBy, StaysBy}
 use Rattle.reading.specs.declared.Reached.{Reached}
-use Rattle.stage.specs.declared.Stage.{Stage}
-use Rattle.stage.specs.declared.Step.{Step}
-use Rattle.stage.specs.declared.Step.TheVariants as step
-use Rattle.stage.specs.Standing.{Bufs, ended_at, state_of, Fixed}
+use Rattle.steps.specs.declared.stage.Stage.{Stage}
+use Rattle.steps.specs.declared.stage.Step.{Step}
+use Rattle.steps.specs.declared.stage.Step.TheVariants as step
+use Rattle.steps.specs.Standing.{Bufs, ended_at, state_of, Fixed}
 use Rattle.running.specs.declared.Last.{Last}
 use Rattle.dispatch.specs.Going.{Going}
 

@@ -2,18 +2,18 @@
 #![tactic(auto)]
 
 ghost use Rattle.std.specs.Prelude.{◌≡◌, ◌≤◌};
-ghost use Rattle.entries.specs.Entries.{Stored};
+ghost use Rattle.store.specs.Buffers.{Stored};
 ghost use Rattle.places.specs.Places.{place_of};
 ghost use Rattle.blocks.specs.Stacks.{open_in, BlocksIn};
 ghost use Rattle.copying.specs.Copying.{Copyable};
-ghost use Rattle.stage.specs.Standing.{bufs};
+ghost use Rattle.steps.specs.Standing.{bufs};
 ghost use Rattle.dispatch.specs.Going.{Works, Going};
 ghost use Rattle.running.specs.Ending.{last_step, ReadFrom, AdvancesBy, FinishesBy};
 
 use dispatch::special;
 use handover::body_at;
 use reading::{Reached, read_on};
-use stage::{Stage, Step, reached, refuse};
+use steps::stage::{Stage, Step, reached, refuse};
 
 // The last stage of a run, and the refusal, or 0, with file and byte.
 #[derive(Clone, Copy)]

@@ -1,6 +1,6 @@
 // The root entry that the command makes: a `define` line for each macro with a value, then an `include` line for each root.
 use crate::adding::{enter, entry_name};
-use formals::extent_at;
+use definition::extent_at;
 use messages::complain;
 use options::CLASSIFY;
 use plan::{
@@ -37,7 +37,7 @@ fn put_include(store: &mut [u8], at: usize, name: &[u8]) -> usize {
 
 // Whether a macro may be defined by that name.
 fn is_macro_name(name: &[u8]) -> bool {
-    starts::is_start_name(name) && names::directive_of(look_up::plain_name(name)) == 0
+    macros::is_start_name(name) && names::directive_of(macros::plain_name(name)) == 0
 }
 
 fn complain_macro(w: &[u8]) -> usize {

@@ -4,9 +4,9 @@
 ghost use Rattle.std.specs.Prelude.{◌≤◌, length};
 
 use flatten::flatten;
-use flattened::Flattened;
+use flatten::Flattened;
+use formats::{STDERR_FILENO, STDIN_FILENO, STDOUT_FILENO};
 use input::Parsed;
-use libc::{STDERR_FILENO, STDIN_FILENO, STDOUT_FILENO};
 use text::part_of;
 
 fn write_answer(r: Flattened, text: &[u8]) {

@@ -7,9 +7,9 @@ use lib.ListN.{length, take, drop, replicate, length-append, length-replicate, r
 use lib.Seq.{paste, take_all, drop_at, drop-length}
 use Rattle.definition.specs.Definitions.{Macro}
 use Rattle.packed.specs.Records.{blank_record}
-use Rattle.finding.specs.Stores.{encode}
-use Rattle.finding.specs.Buffers.{rows_from, padded, Holds}
-use Rattle.finding.proofs.Entries.{length_rows}
+use Rattle.store.specs.Stores.{encode}
+use Rattle.store.specs.Buffers.{rows_from, padded, Holds}
+use Rattle.store.proofs.Entries.{length_rows}
 
 module _ {A : Type 0} (z : A) where
   -- the live front of a buffer cleared: what is behind it is blank already

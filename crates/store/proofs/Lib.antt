@@ -1,5 +1,7 @@
+pub mod Entries
 pub mod Ordering
-pub mod ByName
+pub mod Rooms
+pub mod Places
 pub mod Additions
-pub mod Redefining
+pub mod Replacing
 pub mod Emptying

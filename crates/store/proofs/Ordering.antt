@@ -11,11 +11,9 @@ use Rattle.text.specs.declared.Order.{Order}
 use Rattle.text.specs.declared.Order.TheVariants.{Less, Equal, Greater}
 use Rattle.text.proofs.Comparing.{turned, is_equal, order_turned, order_equal, order_trans}
 use Rattle.definition.specs.Definitions.{Macro}
-use Rattle.finding.specs.declared.Found.{Found}
-use Rattle.finding.specs.declared.Found.TheVariants.{At, Missing}
-use Rattle.finding.specs.Stores.{macro_name, macro_at, Below, Ascending, place_by, find_from, find}
-use Rattle.entries.specs.Entries.{insert_at, replace_at, remove_at}
-use Rattle.store.specs.Stores.{define_by, define, undefine_by, undefine}
+use Rattle.store.specs.declared.Found.{Found}
+use Rattle.store.specs.declared.Found.TheVariants.{At, Missing}
+use Rattle.store.specs.Stores.{macro_name, macro_at, Below, Ascending, place_by, find_from, find, insert_at, replace_at, remove_at, define_by, define, undefine_by, undefine}
 
 pub none_ascend : Ascending []
 none_ascend = tt

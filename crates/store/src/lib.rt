@@ -1,23 +1,96 @@
-// The macro store (document 01, "Macros") in lent buffers: define, undefine, all out, zero.
+// The macro store (document 01, "Macros") in lent buffers: stored forms packed in byte order of names, and a record for
+// each. Records are reached through the crate `packed` only.
 #![tactic(auto)]
 
-ghost use Rattle.std.specs.Prelude.{List, [], ◌≤◌, ◌<◌, length};
+ghost use Rattle.std.specs.Prelude.{◌≡◌, List, [], ℕ, ◌+◌, ◌-◌, ◌≤◌, ◌<◌, length, take};
+ghost use Rattle.text.specs.Order.{order_of};
 ghost use Rattle.definition.specs.Definitions.{Macro};
-ghost use Rattle.finding.specs.Buffers.{Holds};
-ghost use Rattle.entries.specs.Entries.{insert_at, replace_at, Stored, FormIs, Lent};
-ghost use Rattle.store.specs.Stores.{define as defineMacro, undefine as undefineName};
-ghost use Rattle.store.specs.Buffers.{Defines};
+ghost use Rattle.form.specs.Forms.{form_of};
+ghost use Rattle.store.specs.Stores.{macro_name, macro_at, encode, insert_at, replace_at, remove_at};
+ghost use Rattle.store.specs.Stores.{find as findName, define as defineMacro, undefine as undefineName};
+ghost use Rattle.store.specs.Buffers.{Holds, Stored, FormIs, Lent, Inserts, Replaces, Defines};
 
-use entries::{insert_at, remove_at, replace_at};
-use finding::{Found, find, start_of};
-use packed::{clear, clear_records, read};
-use text::part_of;
+use packed::{Record, clear, clear_records, insert, read, remove, replace, shift, splice};
+use text::{Order, compare, part_of};
+
+// Where a name stands among the macros, or where it belongs.
+#[derive(Clone, Copy)]
+pub enum Found {
+    At(usize),
+    Missing(usize),
+}
 
 // What a definition answers: the number of macros then, or that there is no room (12).
 #[derive(Clone, Copy)]
 pub enum Defined {
     Done(usize),
     NoRoom,
+}
+
+// Where the form of macro `i` starts, or where the last one ends.
+pub fn start_of(records: &[[u32; 4]], count: usize, i: usize) -> usize
+    requires { i ≤ count }
+    ensures { (ms : List Macro) (b : List ℕ) → Holds ms b records.now count → result ≡ length (encode (take i ms)) }
+{
+    if i == 0 {
+        return 0;
+    }
+    let r = read(records, i - 1);
+    r.text + r.size
+}
+
+// How the name `w` and the name of macro `i` stand in byte order.
+fn order_at(bytes: &[u8], records: &[[u32; 4]], count: usize, i: usize, w: &[u8]) -> Order
+    requires { i < count }
+    ensures { (ms : List Macro) → Holds ms bytes.now records.now count → result ≡ order_of w.now (macro_name (macro_at ms i)) }
+{
+    let r = read(records, i);
+    compare(w, part_of(bytes, r.start, r.start + r.name))
+}
+
+// The place of a name among the macros.
+pub fn find(bytes: &[u8], records: &[[u32; 4]], count: usize, w: &[u8]) -> Found
+    ensures { (ms : List Macro) → Holds ms bytes.now records.now count → result ≡ findName w.now ms }
+{
+    let mut i = 0;
+    while i < count {
+        let o = order_at(bytes, records, count, i, w);
+        match o {
+            Order::Less => {
+                return Found::Missing(i);
+            }
+            Order::Equal => {
+                return Found::At(i);
+            }
+            Order::Greater => {
+                i += 1;
+                continue;
+            }
+        }
+    }
+    Found::Missing(i)
+}
+
+// The stored form of macro `i`, a part of the bytes.
+pub fn form_at<'a>(bytes: &'a [u8], records: &[[u32; 4]], count: usize, i: usize) -> &'a [u8]
+    requires { i < count }
+    ensures { (ms : List Macro) → Holds ms bytes.now records.now count → result.now ≡ form_of (macro_at ms i) }
+{
+    let r = read(records, i);
+    part_of(bytes, r.start, r.text + r.size)
+}
+
+// Takes out macro `i`.
+fn remove_at(bytes: &mut [u8], records: &mut [[u32; 4]], count: usize, i: usize)
+    requires { (i < count) × (length bytes.old ≤ 65536) × (Stored bytes.old records.old count) }
+    ensures { (ms : List Macro) → Holds ms bytes.old records.old count → Holds (remove_at i ms) bytes.new records.new (count - 1) }
+{
+    let r = read(records, i);
+    let live = start_of(records, count, count);
+    let old = r.text + r.size - r.start;
+    splice(bytes, r.start, old, b"", live);
+    remove(records, i, count);
+    shift(records, i, count - 1, 0, old);
 }
 
 // Takes out the macro of that name, if there is one; the number of macros then.
@@ -33,6 +106,62 @@ pub fn undefine(bytes: &mut [u8], records: &mut [[u32; 4]], count: usize, w: &[u
         }
         Found::Missing(_) => count,
     }
+}
+
+// Puts a macro in at `i`, where records and bytes have room for it.
+fn insert_at(
+    bytes: &mut [u8],
+    records: &mut [[u32; 4]],
+    count: usize,
+    i: usize,
+    form: &[u8],
+    name: usize,
+    text: usize,
+)
+    requires { Inserts bytes.old records.old count i form.now name text }
+    ensures { (ms : List Macro) (m : Macro) → Holds ms bytes.old records.old count → FormIs m form.now name text → Holds (insert_at i m ms) bytes.new records.new (count + 1) }
+{
+    let start = start_of(records, count, i);
+    let live = start_of(records, count, count);
+    let n = form.len();
+    splice(bytes, start, 0, form, live);
+    let r = Record {
+        start,
+        name,
+        text: start + text,
+        size: n - text,
+    };
+    insert(records, i, r, count);
+    shift(records, i + 1, count + 1, n, 0);
+}
+
+// Puts a macro in the place of macro `i`, where the bytes have room for it.
+fn replace_at(
+    bytes: &mut [u8],
+    records: &mut [[u32; 4]],
+    count: usize,
+    i: usize,
+    form: &[u8],
+    name: usize,
+    text: usize,
+)
+    requires { Replaces bytes.old records.old count i form.now name text }
+    ensures { (ms : List Macro) (m : Macro) → Holds ms bytes.old records.old count → FormIs m form.now name text → Holds (replace_at i m ms) bytes.new records.new count }
+{
+    let old = read(records, i);
+    let start = old.start;
+    let size = old.text + old.size - start;
+    let live = start_of(records, count, count);
+    let n = form.len();
+    splice(bytes, start, size, form, live);
+    let r = Record {
+        start,
+        name,
+        text: start + text,
+        size: n - text,
+    };
+    replace(records, i, r);
+    shift(records, i + 1, count, n, size);
 }
 
 // Defines a macro of a new name, which belongs at `i`.

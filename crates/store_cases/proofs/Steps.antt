@@ -8,11 +8,11 @@ use mathlib.Core.Path.{◌≡◌, refl, sym, subst, ◌∙◌}
 use lib.ListN.{length}
 use Rattle.definition.specs.Definitions.{Macro, Definition, barred, bad, good}
 use Rattle.store.specs.Stores.{define, undefine, fits}
-use Rattle.finding.specs.Buffers.{Holds}
-use Rattle.additions.specs.Adding.{answer_to, macros_after, Reads}
-use Rattle.starts.specs.Starting.{started, starts_fit}
-use Rattle.additions.specs.declared.ReadIn.{ReadIn}
-use Rattle.additions.specs.declared.ReadIn.TheVariants as read
+use Rattle.store.specs.Buffers.{Holds}
+use Rattle.macros.specs.Adding.{answer_to, macros_after, Reads}
+use Rattle.macros.specs.Starting.{started, starts_fit}
+use Rattle.macros.specs.declared.ReadIn.{ReadIn}
+use Rattle.macros.specs.declared.ReadIn.TheVariants as read
 use Rattle.macros.proofs.Kept.{started_sound, fits_few, undefine_few}
 use Rattle.store_cases.specs.Kept.{Kept, counted}
 

@@ -1,9 +1,9 @@
 -- What every step of a script keeps, and the number of macros by an answer to a definition.
 -- Assumes nothing.
 use Rattle.std.specs.Prelude.{ℕ, ◌≤◌, List}
-use Rattle.entries.specs.Entries.{Stored}
-use Rattle.additions.specs.declared.ReadIn.{ReadIn}
-use Rattle.additions.specs.declared.ReadIn.TheVariants as read
+use Rattle.store.specs.Buffers.{Stored}
+use Rattle.macros.specs.declared.ReadIn.{ReadIn}
+use Rattle.macros.specs.declared.ReadIn.TheVariants as read
 
 -- bytes and records hold n macros, at most 256
 pub record Kept (b : List ℕ) (r : List (List ℕ)) (n : ℕ) : Type 0 where

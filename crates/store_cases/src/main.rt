@@ -15,12 +15,11 @@
 ghost use Rattle.std.specs.Prelude.{◌≡◌, ◌<◌, ◌≤◌, length};
 ghost use Rattle.store_cases.specs.Kept.{Kept, counted};
 
-use additions::ReadIn;
+use macros::ReadIn;
 use formats::{
-    field_at, field_end, least, number_at, say, say_count, say_hex, say_number, say_pass,
-    say_records,
+    STDIN_FILENO, field_at, field_end, least, number_at, say, say_count, say_hex, say_number,
+    say_pass, say_records,
 };
-use libc::STDIN_FILENO;
 use text::part_of;
 
 fn wide(b: u8) -> usize
@@ -160,7 +159,7 @@ fn take_out(w: &[u8], bytes: &mut [u8], records: &mut [[u32; 4]], count: usize) 
     requires { (length bytes.old ≤ 65536) × (Kept bytes.old records.old count) }
     ensures { Kept bytes.new records.new result }
 {
-    let n = store::undefine(bytes, records, count, look_up::plain_name(w));
+    let n = store::undefine(bytes, records, count, macros::plain_name(w));
     say_count(b"undefined", n);
     n
 }
@@ -172,11 +171,11 @@ fn define_starts(s: &[u8], ranges: &[[u32; 2]], bytes: &mut [u8], records: &mut 
 {
     let mut form = [0u8; 1025];
     store::zero_store(bytes, records);
-    if !starts::starts_fit(s, ranges, records.len(), bytes.len()) {
+    if !macros::starts_fit(s, ranges, records.len(), bytes.len()) {
         say(b"refused 1\n");
         return 0;
     }
-    let n = starts::define_starts(s, ranges, bytes, records, &mut form);
+    let n = macros::define_starts(s, ranges, bytes, records, &mut form);
     say_count(b"starts", n);
     n
 }
@@ -221,14 +220,14 @@ fn run_foreign(s: &[u8], at: usize, passes: bool, name: &[u8]) {
     }
     say_bytes(
         b"foreign",
-        look_up::look_up(field_at(s, at), &records[0..n], name),
+        macros::look_up(field_at(s, at), &records[0..n], name),
     );
 }
 
 // Carries out a step that changes nothing.
 fn show(b: u8, s: &[u8], at: usize, bytes: &[u8], records: &[[u32; 4]], count: usize) {
     match b {
-        b'L' => say_bytes(b"form", look_up::look_up(bytes, records, field_at(s, at))),
+        b'L' => say_bytes(b"form", macros::look_up(bytes, records, field_at(s, at))),
         b'Q' => say_pass(records, bytes),
         b'P' => print_store(bytes, records, count),
         b'F' => run_foreign(s, field_end(s, at), false, field_at(s, at)),

@@ -18,12 +18,12 @@ use Rattle.lex.proofs.Progress.{Inside}
 use Rattle.lex.proofs.Barring.{numbered_some}
 use Rattle.lex.proofs.Listing.{by_tokens}
 use Rattle.storing.specs.Stored.{stored}
-use Rattle.formals.specs.declared.Extent.{Extent}
-use Rattle.formals.specs.declared.Head.{Head}
-use Rattle.formals.specs.Extents.{mark_of, extent_in, extent_at, bars_of}
-use Rattle.formals.specs.Heads.{head_at}
-use Rattle.formals.specs.Lists.{Formals, ill, whole, shape_by}
-use Rattle.definition.specs.Definitions.{Macro, Definition, barred, bad, good, is_bad, text_at, judged_by, definition_at}
+use Rattle.definition.specs.declared.Extent.{Extent}
+use Rattle.definition.specs.declared.Head.{Head}
+use Rattle.definition.specs.Extents.{mark_of, extent_in, extent_at, bars_of}
+use Rattle.definition.specs.Heads.{head_at}
+use Rattle.definition.specs.Lists.{Formals, ill, whole}
+use Rattle.definition.specs.Definitions.{Macro, Definition, barred, bad, good, is_bad, shape_by, text_at, judged_by, definition_at}
 use Rattle.turns.proofs.Inside.{inside_here, token_in}
 use Rattle.turns.proofs.Forms.{BarredIn, FaultIn, fault_barred, none_in, token_fault, worse_in}
 

@@ -19,27 +19,25 @@ use Rattle.lex.proofs.Tests.{by_test}
 use Rattle.lex.proofs.Progress.{Inside, token-at}
 use Rattle.lex.proofs.Barring.{Barring, numbered_none, illegal_bar, token_bars}
 use Rattle.lex.proofs.Listing.{by_tokens}
-use Rattle.names.specs.Names.{Undef, Include, Timescale}
-use Rattle.form_words.specs.Tables.{Unknown, unit_of}
-use Rattle.line_words.specs.declared.Word.{Word}
-use Rattle.line_words.specs.declared.Word.TheVariants as word
-use Rattle.timescale.specs.declared.Time.{Time}
-use Rattle.timescale.specs.declared.Time.TheVariants as time
+use Rattle.names.specs.Names.{Undef, Include, Timescale, Unknown, unit_of}
+use Rattle.directive.specs.declared.Word.{Word}
+use Rattle.directive.specs.declared.Word.TheVariants as word
+use Rattle.directive.specs.declared.Time.{Time}
+use Rattle.directive.specs.declared.Time.TheVariants as time
 use Rattle.directive.specs.declared.Raw.{Raw}
 use Rattle.directive.specs.declared.Raw.TheVariants as raw
 use Rattle.directive.specs.declared.FileName.{FileName}
 use Rattle.directive.specs.declared.FileName.TheVariants as file
 use Rattle.directive.specs.declared.IncludeLine.{IncludeLine}
 use Rattle.directive.specs.declared.Value.{Value}
-use Rattle.timescale.specs.declared.Read.{Read}
-use Rattle.timescale.specs.declared.Read.TheVariants.{Said, Unformed, Barred}
+use Rattle.directive.specs.declared.Read.{Read}
+use Rattle.directive.specs.declared.Read.TheVariants.{Said, Unformed, Barred}
 use Rattle.directive.specs.declared.Form.{Form}
 use Rattle.directive.specs.declared.Form.TheVariants as form
-use Rattle.line_words.specs.Words.{wraps, word_start, word_at}
+use Rattle.directive.specs.Words.{wraps, word_start, word_at}
 use Rattle.directive.specs.Include.{raw_from, raw_end, line, behind, behind_at, angled_by, name_at, include_in, include_at}
-use Rattle.timescale.specs.Times.{power, unit_by, unit_after, magnitude, time_by, time_at, precision_by, precision_form, slash_by, slash_form, timescale_by, timescale_form}
-use Rattle.directive.specs.Forms.{undef_by, undef_form, takes_entry, entry_kind, entry_in, entry_by, entry_form, named_by, line_form, include_form, stands_alone, read_at, form_by, form_at}
-use Rattle.line_words.proofs.Wording.{start_past, by_next}
+use Rattle.directive.specs.Forms.{undef_by, undef_form, power, unit_by, unit_after, magnitude, time_by, time_at, precision_by, precision_form, slash_by, slash_form, timescale_by, timescale_form, takes_entry, entry_kind, entry_in, entry_by, entry_form, named_by, line_form, include_form, stands_alone, read_at, form_by, form_at}
+use Rattle.directive.proofs.Wording.{start_past, by_next}
 use Rattle.turns.proofs.Inside.{inside_here, token_in}
 
 -- one of 2 to 6, at a place in the text s or at its end

@@ -18,7 +18,7 @@ use Rattle.settings.specs.declared.Settings.{Settings}
 use Rattle.writing.specs.Written.{Written, placed}
 use Rattle.places.specs.Places.{newlines, line_at}
 use Rattle.places.proofs.Lines.{line_first, line_past}
-use Rattle.cursor.specs.Cursors.{opening, cursor_past, cursor_behind}
+use Rattle.copying.specs.Cursors.{opening, cursor_past, cursor_behind}
 use Rattle.handover.specs.Entries.{body_of}
 use Rattle.handover.specs.Sizes.{HandOver, Rooms, is_sound}
 use Rattle.turns.specs.States.{Context, Frame, State, Made, Turn, more, stop, finished, Here, frames_at, behind, write, place_here}

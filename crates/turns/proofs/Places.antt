@@ -13,11 +13,9 @@ use Rattle.definition.specs.Definitions.{Macro}
 use Rattle.writing.specs.Written.{Written, put, placed, map_of, Room, Put, full, fitted, put_in}
 use Rattle.places.specs.Places.{newlines, line_at, place_of}
 use Rattle.pending.specs.Pending.{Pending, view}
-use Rattle.pending.specs.Spelled.{Outer, writes}
 use Rattle.pending.proofs.Viewing.{by_usage}
 use Rattle.replace.specs.Replacing.{Got, refused, got, replace}
-use Rattle.called.specs.Expansions.{Expansion, Next, on_got, on_put, walk, onward}
-use Rattle.expand.specs.Expanding.{first, expand}
+use Rattle.expand.specs.Expanding.{Outer, writes, Expansion, Next, on_got, on_put, walk, onward, first, expand}
 use Rattle.handover.specs.Entries.{body_of}
 use Rattle.turns.specs.States.{Context}
 use Rattle.turns.specs.Mapping.{InFile, All}

@@ -12,8 +12,8 @@ use Rattle.lex.proofs.Tests.{by_test}
 use Rattle.store.specs.Stores.{define, fits}
 use Rattle.settings.specs.declared.Settings.{Settings}
 use Rattle.writing.specs.Written.{Written}
-use Rattle.cursor.specs.declared.Cursor.{Cursor}
-use Rattle.cursor.specs.Cursors.{opening, cursor_past, cursor_behind}
+use Rattle.copying.specs.declared.Cursor.{Cursor}
+use Rattle.copying.specs.Cursors.{opening, cursor_past, cursor_behind}
 use Rattle.handover.specs.Entries.{blank_entry, body_of, all_entries}
 use Rattle.handover.proofs.Laws.{entries_sound, entry-body}
 use Rattle.turns.specs.States.{Context, Frame, State, Made, Turn, more, stop, finished, Here, frames_at, behind, write}

@@ -21,7 +21,7 @@ use Rattle.conditions.proofs.Parts.{condition_refused}
 use Rattle.settings.specs.declared.Settings.{Settings}
 use Rattle.writing.specs.Written.{Written, full}
 use Rattle.blocks.specs.Blocks.{Conditional, open_block, next_block, close_block}
-use Rattle.called.specs.Expansions.{Expansion}
+use Rattle.expand.specs.Expanding.{Expansion}
 use Rattle.handover.specs.Entries.{body_of}
 use Rattle.handover.specs.Sizes.{HandOver, Rooms, is_sound}
 use Rattle.turns.specs.States.{Context, Frame, State, nothing, Turn, more, stop, finished, Here, refuse, refuse_at, write}

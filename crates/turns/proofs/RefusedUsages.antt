@@ -9,15 +9,13 @@ use Rattle.lex.proofs.Tests.{by_test}
 use Rattle.lex.proofs.Progress.{Inside}
 use Rattle.lex.proofs.Barring.{Numbered, numbered_none, numbered_some}
 use Rattle.definition.specs.Definitions.{Macro}
-use Rattle.starts.proofs.Each.{Each, each_append}
+use Rattle.macros.proofs.Each.{Each, each_append}
 use Rattle.writing.specs.Written.{Written, map_of, placed, Room, Put, full, fitted, put_in}
 use Rattle.pending.specs.Pending.{Pending, view}
-use Rattle.pending.specs.Spelled.{Outer, writes}
 use Rattle.pending.proofs.Viewing.{by_usage}
 use Rattle.replace.specs.Replacing.{Got, refused, got, replace, deepest}
-use Rattle.called.specs.Expansions.{Expansion, ends, Next, on_got, on_put, walk, onward}
-use Rattle.expand.specs.Expanding.{first, expand}
-use Rattle.called.specs.Expansions as expanding
+use Rattle.expand.specs.Expanding.{Outer, writes, Expansion, ends, Next, on_got, on_put, walk, onward, first, expand}
+use Rattle.expand.specs.Expanding as expanding
 use Rattle.turns.proofs.Replacing.{Within, PendingIn, AllIn, GotIn, replace_in, first_in}
 
 -- an expansion in the file s that is not refused, or by one of 2 to 20, with a place in s or at its end

@@ -19,18 +19,17 @@ use Rattle.lex.proofs.Barring.{Barring, numbered_none, token_bars}
 use Rattle.lex.proofs.Listing.{by_tokens}
 use Rattle.names.specs.Names.{is_directive, bars_text}
 use Rattle.definition.specs.Definitions.{Parameter, parameter, Macro, macro}
-use Rattle.finding.specs.Stores.{macro_at, find}
-use Rattle.finding.specs.declared.Found.{Found}
-use Rattle.finding.specs.declared.Found.TheVariants.{At, Missing}
-use Rattle.starts.proofs.Each.{Each, each_append}
+use Rattle.store.specs.Stores.{macro_at, find}
+use Rattle.store.specs.declared.Found.{Found}
+use Rattle.store.specs.declared.Found.TheVariants.{At, Missing}
+use Rattle.macros.proofs.Each.{Each, each_append}
 use Rattle.sets.specs.Sets.{elem, insert_asc}
 use Rattle.pending.specs.Pending.{Pending, file_tokens, file_from, text_tokens, View, blanks, calls, names, opens, closes, commas, bars, plain, byte_view, is_spacing, is_comment, is_blank, kind_view, view}
 use Rattle.pending.proofs.Viewing.{by_name}
 use Rattle.arguments.specs.Arguments.{Move, keep, closing, comma, move_of, Args, args, push, split, after, collect, seek_by, seek}
 use Rattle.arguments.specs.Arguments as arguments
-use Rattle.tidying.specs.Tidying.{cleaned, before_newline, is_backslash, cleaned_all, drop_left, keep_last, drop_right, tidy, tidy_all}
-use Rattle.values.specs.Values.{fallback, or_else}
-use Rattle.replace.specs.Replacing.{value, instead, image_of, in_place, Got, refused, got, text_with, enough, Listed, listed, accepted, list_for, with_list, replace_by, replace_at, replace}
+use Rattle.replace.specs.Tidying.{cleaned, before_newline, is_backslash, cleaned_all, drop_left, keep_last, drop_right, tidy, tidy_all}
+use Rattle.replace.specs.Replacing.{fallback, or_else, value, instead, image_of, in_place, Got, refused, got, text_with, enough, Listed, listed, accepted, list_for, with_list, replace_by, replace_at, replace}
 use Rattle.replace.specs.Replacing as replacing
 use Rattle.expand.specs.Expanding.{first}
 use Rattle.turns.proofs.Inside.{token_in}

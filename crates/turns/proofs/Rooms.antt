@@ -18,13 +18,11 @@ use Rattle.writing.specs.Written.{Written, placed, map_of, fresh_after, Room, Pu
 use Rattle.writing.specs.Buffers.{line_count, lines_in}
 use Rattle.writing.proofs.Laws.{text_length, map_length, map_append}
 use Rattle.pending.specs.Pending.{Pending, view}
-use Rattle.pending.specs.Spelled.{Outer, writes as printed}
 use Rattle.pending.proofs.Viewing.{by_usage}
 use Rattle.replace.specs.Replacing.{Got, refused, got, replace}
 use Rattle.blocks.specs.Blocks.{Conditional}
 use Rattle.handover.specs.Sizes.{HandOver, Rooms, is_sound}
-use Rattle.called.specs.Expansions.{Expansion, Next, on_got, walk, onward, on_put as puts}
-use Rattle.expand.specs.Expanding.{first, expand}
+use Rattle.expand.specs.Expanding.{Outer, Expansion, Next, on_got, walk, onward, on_put as puts, writes as printed, first, expand}
 use Rattle.turns.specs.States.{Context, Frame, State, Turn, more, stop, finished, Here, write, go_to, refuse_at, room_after}
 use Rattle.turns.specs.Acts.{Act, refuses, leaves, copies, skips, hides, branches, defines, undefines, includes, keeps, spells, expands, act_at}
 use Rattle.turns.specs.Usages.{after_usage, usage_end, expand_here, outer_of}

@@ -11,11 +11,9 @@ use borrow.Author.Tests.{eqb-true}
 use Rattle.lex.proofs.Progress.{Inside}
 use Rattle.definition.specs.Definitions.{Macro}
 use Rattle.writing.specs.Written.{Room}
-use Rattle.starts.proofs.Each.{Each}
+use Rattle.macros.proofs.Each.{Each}
 use Rattle.replace.specs.Replacing.{Got, refused, got}
-use Rattle.pending.specs.Spelled.{Outer}
-use Rattle.called.specs.Expansions.{Next, on_got, onward}
-use Rattle.expand.specs.Expanding.{first, goes_on, expand}
+use Rattle.expand.specs.Expanding.{Outer, Next, on_got, onward, first, goes_on, expand}
 use Rattle.turns.proofs.Replacing.{GotIn, first_in}
 
 module _ (s : List ℕ) (i : ℕ) (l : i ≤ length s) where

@@ -5,7 +5,7 @@ use Rattle.definition.specs.Definitions.{Macro}
 use Rattle.settings.specs.declared.Settings.{Settings}
 use Rattle.writing.specs.Written.{Written, Room}
 use Rattle.blocks.specs.Blocks.{Conditional}
-use Rattle.cursor.specs.declared.Cursor.{Cursor}
+use Rattle.copying.specs.declared.Cursor.{Cursor}
 use Rattle.turns.specs.States.{Context, Frame, State, writes, more}
 use Rattle.turns.specs.Turns.{turn_at}
 

@@ -5,7 +5,7 @@ use Rattle.text.specs.Bytes.{part}
 use Rattle.store.specs.Stores.{define, fits}
 use Rattle.settings.specs.Settings.{set_by}
 use Rattle.writing.specs.Written.{placed}
-use Rattle.cursor.specs.Cursors.{opening, cursor_past}
+use Rattle.copying.specs.Cursors.{opening, cursor_past}
 use Rattle.turns.specs.States.{Turn, Here, refuse, refuse_at, frames_at, behind, go_to, write, place_here}
 use Rattle.turns.specs.Acts.{Act, refuses, leaves, copies, skips, hides, branches, defines, undefines, includes, keeps, spells, expands}
 use Rattle.turns.specs.Usages.{usage_turn}

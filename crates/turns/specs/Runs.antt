@@ -2,12 +2,12 @@
 -- Assumes nothing.
 use Rattle.std.specs.Prelude.{ℕ, zero, suc, ◌+◌, ◌-◌, ◌*◌, max, true, cond, List, [], ◌∷◌, ◌++◌, eqb, length}
 use Rattle.definition.specs.Definitions.{Macro}
-use Rattle.starts.specs.Starting.{started}
+use Rattle.macros.specs.Starting.{started}
 use Rattle.settings.specs.declared.Settings.{Settings}
 use Rattle.settings.specs.Settings.{reset_to}
 use Rattle.writing.specs.Written.{Written, text_of, map_of}
 use Rattle.places.specs.Places.{line_at}
-use Rattle.cursor.specs.Cursors.{opening}
+use Rattle.copying.specs.Cursors.{opening}
 use Rattle.handover.specs.Entries.{body_of}
 use Rattle.handover.specs.Sizes.{HandOver, Rooms, is_sound}
 use Rattle.turns.specs.States.{Context, Frame, State, Made, Turn, more, stop, finished}

@@ -7,8 +7,8 @@ use Rattle.settings.specs.declared.Settings.{Settings}
 use Rattle.writing.specs.Written.{Written, map_of, fresh_after, Room, Put, full, fitted, put_in}
 use Rattle.places.specs.Places.{place_of}
 use Rattle.blocks.specs.Blocks.{Conditional}
-use Rattle.cursor.specs.declared.Cursor.{Cursor}
-use Rattle.cursor.specs.Cursors.{cursor_behind}
+use Rattle.copying.specs.declared.Cursor.{Cursor}
+use Rattle.copying.specs.Cursors.{cursor_behind}
 
 -- what a run does not change: the byte store and include table, the starting keyword set, the room for macros
 pub record Context : Type 0 where

@@ -2,9 +2,7 @@
 -- Assumes nothing.
 use Rattle.std.specs.Prelude.{ℕ, ◌-◌, cond, eqb, ltb}
 use Rattle.lex.specs.Tokens.{name_of}
-use Rattle.pending.specs.Spelled.{Outer}
-use Rattle.called.specs.Expansions.{Expansion}
-use Rattle.expand.specs.Expanding.{first, goes_on, expand}
+use Rattle.expand.specs.Expanding.{Outer, Expansion, first, goes_on, expand}
 use Rattle.turns.specs.States.{Made, Turn, more, stop, Here, behind, place_here, room_after}
 use Rattle.turns.specs.Acts.{file_word, line_word}
 

@@ -2,13 +2,13 @@
 // start, 0 to 3.
 #![tactic(auto)]
 
-use formats::{least, say_classified};
-use libc::{STDERR_FILENO, STDIN_FILENO};
+use formats::{STDERR_FILENO, STDIN_FILENO, least, read_argument, say_classified};
 use options::{NO_NUMBER, number_of};
+use std::rt::Env;
 
-fn argument(i: usize) -> u32 {
+fn argument(rt: &impl Env, i: usize) -> u32 {
     let mut word = [0u8; 16];
-    let n = os::arg(i, &mut word);
+    let n = read_argument(rt, i, &mut word);
     least(number_of(&word[..n]), NO_NUMBER) as u32
 }
 
@@ -27,16 +27,16 @@ fn run(text: &[u8], lent: usize, set: u32) {
 }
 
 // Reads the text into `text`, which has room for one byte more than is taken.
-fn read_and_run(text: &mut [u8]) {
+fn read_and_run(rt: &impl Env, text: &mut [u8]) {
     let n = io::read_full(STDIN_FILENO, text);
     if text.len() <= n {
         io::write_all(STDERR_FILENO, b"words: the text is over 1,048,576 bytes\n");
         return;
     }
-    run(&text[0..n], argument(1) as usize, argument(2));
+    run(&text[0..n], argument(rt, 1) as usize, argument(rt, 2));
 }
 
-fn main() {
+fn main(rt: HostRuntime) {
     let mut text = [0u8; 1048577];
-    read_and_run(&mut text);
+    read_and_run(&rt, &mut text);
 }

@@ -2,8 +2,7 @@
 // the start, and length of the text, four bytes each, low first; then the text.
 #![tactic(auto)]
 
-use formats::{field_at, field_end, least, number_at, say_classified};
-use libc::STDIN_FILENO;
+use formats::{STDIN_FILENO, field_at, field_end, least, number_at, say_classified};
 use text::part_of;
 
 // The frame that `s` begins with, with no more words lent than there are.

@@ -1,6 +1,6 @@
 -- `afresh::end_verdict` meets its contract. The brackets due are as many as it counts.
 -- Assumes nothing.
-use Rattle.reader_state.specs.States.{ended}
+use Rattle.afresh.specs.States.{ended}
 use Rattle.afresh.proofs.Verdicts.{stack_open}
 use Rattle.afresh.proofs.end_verdict.Goals as goal
 

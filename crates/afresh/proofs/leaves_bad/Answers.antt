@@ -1,8 +1,8 @@
 -- `afresh::leaves_bad` meets its contract. It branches as its definition does.
 -- Assumes nothing.
-use Rattle.reader_state.specs.Feeding.{state_of}
-use Rattle.reader_state.proofs.Feeding.{name_length}
 use Rattle.afresh.proofs.Verdicts.{leaves_name, leaves_doubt, leaves_other}
+use Rattle.afresh.specs.Feeding.{state_of}
+use Rattle.afresh.proofs.Feeding.{name_length}
 use Rattle.afresh.proofs.leaves_bad.Goals as goal
 
 pub returns-then-r : goal.returns-then-r

@@ -1,8 +1,8 @@
 -- `afresh::read_accent` meets its contract. It branches as its definition does.
 -- Assumes nothing.
 use borrow.Author.Tests.{eq-eqb, ne_eqb}
-use Rattle.reader_state.specs.States.{in_accent}
-use Rattle.reader_state.proofs.Feeding.{sound, fed_at, fed_turned}
+use Rattle.afresh.specs.States.{in_accent}
+use Rattle.afresh.proofs.Feeding.{sound, fed_at, fed_turned}
 use Rattle.afresh.proofs.read_accent.Goals as goal
 
 pub returns-then-is_start : goal.returns-then-is_start

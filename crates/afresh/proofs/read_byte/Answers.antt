@@ -1,7 +1,7 @@
 -- `afresh::read_byte` meets its contract. It branches as its definition does.
 -- Assumes nothing.
-use Rattle.reader_state.specs.States.{next}
-use Rattle.reader_state.proofs.Feeding.{fed_at}
+use Rattle.afresh.specs.States.{next}
+use Rattle.afresh.proofs.Feeding.{fed_at}
 use Rattle.std.proofs.lemmas.Bool.{not_from_true, not_from_false}
 use Rattle.afresh.proofs.read_byte.Goals as goal
 

@@ -2,8 +2,8 @@
 -- Assumes nothing.
 use borrow.Author.Tests.{eq-eqb, ne_eqb, le-ltb, lt-ltb}
 use native.Mathlib.Omega.{arith}
-use Rattle.reader_state.specs.States.{in_doubt}
-use Rattle.reader_state.proofs.Feeding.{name_length, fed_at}
+use Rattle.afresh.specs.States.{in_doubt}
+use Rattle.afresh.proofs.Feeding.{name_length, fed_at}
 use Rattle.afresh.proofs.Handing.{fed_line}
 use Rattle.afresh.proofs.read_doubt.Goals as goal
 

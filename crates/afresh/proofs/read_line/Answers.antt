@@ -2,7 +2,7 @@
 -- Assumes nothing.
 use mathlib.Core.Path.{refl}
 use native.Mathlib.Omega.{arith}
-use Rattle.reader_state.specs.States.{in_line}
+use Rattle.afresh.specs.States.{in_line}
 use Rattle.afresh.proofs.Handing.{handed_sound, fed_shorn}
 use Rattle.afresh.proofs.read_line.Goals as goal
 

@@ -1,8 +1,8 @@
 -- `afresh::read_marked` meets its contract. It branches as its definition does.
 -- Assumes nothing.
 use borrow.Author.Tests.{eq-eqb, ne_eqb}
-use Rattle.reader_state.specs.States.{in_marked}
-use Rattle.reader_state.proofs.Feeding.{fed_at}
+use Rattle.afresh.specs.States.{in_marked}
+use Rattle.afresh.proofs.Feeding.{fed_at}
 use Rattle.afresh.proofs.read_marked.Goals as goal
 
 pub returns-then-r-eq-SOLID : goal.returns-then-r-eq-SOLID

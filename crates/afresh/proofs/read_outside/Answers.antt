@@ -1,7 +1,7 @@
 -- `afresh::read_outside` meets its contract. It branches as its definition does.
 -- Assumes nothing.
 use borrow.Author.Tests.{eq-eqb, ne_eqb}
-use Rattle.reader_state.specs.States.{outside}
+use Rattle.afresh.specs.States.{outside}
 use Rattle.afresh.proofs.read_outside.Goals as goal
 
 pub returns-then-r-eq-START : goal.returns-then-r-eq-START

@@ -1,7 +1,7 @@
 -- `afresh::read_run` meets its contract. It branches as its definition does.
 -- Assumes nothing.
-use Rattle.reader_state.specs.States.{in_run}
-use Rattle.reader_state.proofs.Feeding.{fed_at}
+use Rattle.afresh.specs.States.{in_run}
+use Rattle.afresh.proofs.Feeding.{fed_at}
 use Rattle.afresh.proofs.read_run.Goals as goal
 
 pub returns-then-is_run : goal.returns-then-is_run

@@ -1,8 +1,8 @@
 -- `afresh::read_short` meets its contract. It branches as its definition does.
 -- Assumes nothing.
 use borrow.Author.Tests.{eq-eqb, ne_eqb}
-use Rattle.reader_state.specs.States.{in_short}
-use Rattle.reader_state.proofs.Feeding.{fed_at}
+use Rattle.afresh.specs.States.{in_short}
+use Rattle.afresh.proofs.Feeding.{fed_at}
 use Rattle.afresh.proofs.read_short.Goals as goal
 
 pub returns-then-r-eq-TICK : goal.returns-then-r-eq-TICK

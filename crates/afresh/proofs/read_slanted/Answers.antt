@@ -1,12 +1,12 @@
 -- `afresh::read_slanted` meets its contract. The name is begun with no byte.
 -- Assumes nothing.
-use Rattle.reader_state.specs.Feeding.{state_of}
-use Rattle.reader_state.specs.States.{in_slanted}
-use Rattle.reader_state.proofs.Feeding.{fed_at}
+use Rattle.afresh.specs.Feeding.{state_of}
 use Rattle.afresh.proofs.Choices.{slanted_bad, slanted_solid}
-use Rattle.afresh.proofs.Handing.{handed_sound, fed_slanted}
 use borrow.Author.Tests.{eq-eqb}
 use native.Mathlib.Omega.{arith}
+use Rattle.afresh.specs.States.{in_slanted}
+use Rattle.afresh.proofs.Feeding.{fed_at}
+use Rattle.afresh.proofs.Handing.{handed_sound, fed_slanted}
 use Rattle.afresh.proofs.read_slanted.Goals as goal
 
 pub returns-then-b-eq96 : goal.returns-then-b-eq96

@@ -1,7 +1,7 @@
 -- `afresh::read_solid` meets its contract. It branches as its definition does.
 -- Assumes nothing.
 use borrow.Author.Tests.{eq-eqb, ne_eqb}
-use Rattle.reader_state.specs.States.{in_solid}
+use Rattle.afresh.specs.States.{in_solid}
 use Rattle.afresh.proofs.read_solid.Goals as goal
 
 pub returns-then-is_space : goal.returns-then-is_space

@@ -1,8 +1,8 @@
 -- `afresh::read_string` meets its contract. It branches as its definition does.
 -- Assumes nothing.
 use borrow.Author.Tests.{eq-eqb, ne_eqb}
-use Rattle.reader_state.specs.States.{in_string}
-use Rattle.reader_state.proofs.Feeding.{fed_at}
+use Rattle.afresh.specs.States.{in_string}
+use Rattle.afresh.proofs.Feeding.{fed_at}
 use Rattle.afresh.proofs.read_string.Goals as goal
 
 pub returns-then-b-eq10 : goal.returns-then-b-eq10

@@ -1,7 +1,7 @@
 -- `afresh::read_tick` meets its contract. It branches as its definition does.
 -- Assumes nothing.
-use Rattle.reader_state.specs.States.{in_tick}
-use Rattle.reader_state.proofs.Feeding.{fed_at}
+use Rattle.afresh.specs.States.{in_tick}
+use Rattle.afresh.proofs.Feeding.{fed_at}
 use Rattle.afresh.proofs.read_tick.Goals as goal
 
 pub returns-then-is_base : goal.returns-then-is_base

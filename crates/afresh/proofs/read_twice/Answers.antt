@@ -1,14 +1,14 @@
 -- `afresh::read_twice` meets its contract. The name is begun with a grave accent.
 -- Assumes nothing.
-use Rattle.reader_state.specs.Feeding.{state_of}
-use Rattle.reader_state.specs.States.{in_twice}
-use Rattle.reader_state.proofs.Feeding.{fed_at}
+use Rattle.afresh.specs.Feeding.{state_of}
 use Rattle.afresh.proofs.Choices.{twice_bad, twice_solid}
-use Rattle.afresh.proofs.Handing.{handed_sound, fed_twice, accent_sound}
 use borrow.Author.Tests.{eq-eqb}
 use native.Mathlib.Omega.{arith}
 use mathlib.Core.Path.{◌∙◌}
 use lib.ListN.{length-set}
+use Rattle.afresh.specs.States.{in_twice}
+use Rattle.afresh.proofs.Feeding.{fed_at}
+use Rattle.afresh.proofs.Handing.{handed_sound, fed_twice, accent_sound}
 use Rattle.afresh.proofs.read_twice.Goals as goal
 
 pub returns-then-b-eq34 : goal.returns-then-b-eq34

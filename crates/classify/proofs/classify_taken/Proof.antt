@@ -6,7 +6,7 @@ use borrow.Author.Rules.{rules}
 use Rattle.text.specs.Bytes.{bytes}
 use Rattle.keywords.specs.Tables.{flat, starts_from, firsts, keyword_bytes, keyword_starts, keyword_firsts}
 use Rattle.keywords.specs.Keywords.{keywords}
-use Rattle.passed_over.proofs.Filled.{filled}
+use Rattle.classify.proofs.Filled.{filled}
 use Rattle.classify.proofs.classify_taken.Statement.{statement}
 use Rattle.classify.proofs.classify_taken.Tie as tie
 

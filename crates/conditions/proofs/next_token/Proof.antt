@@ -11,8 +11,8 @@ use borrow.Author.Rules.{rules}
 use borrow.Author.Tests.{ltb-true, eqb-false, ne_eqb, not-true}
 use Rattle.lex.specs.Classes.{is_white}
 use Rattle.lex.proofs.Tests.{and_left, and_right, read_within}
-use Rattle.line_words.specs.Words.{word_start}
-use Rattle.line_words.proofs.Wording.{start_solid}
+use Rattle.directive.specs.Words.{word_start}
+use Rattle.directive.proofs.Wording.{start_solid}
 use Rattle.conditions.proofs.next_token.Statement.{statement}
 use Rattle.conditions.proofs.next_token.Tie as tie
 

@@ -4,7 +4,7 @@ use mathlib.Core.Path.{ap}
 use borrow.Author.Rules.{rules}
 use borrow.Author.Tests.{not-true, not-false}
 use Rattle.brackets.proofs.Settling.{settled_as}
-use Rattle.afresh.specs.Verdicts.{verdict_of}
+use Rattle.afresh.specs.Feeding.{verdict_of}
 use Rattle.definition.proofs.Verdicts.{settled_bad, settled_good, plain_formal, grave_formal, stored_formal}
 use Rattle.definition.proofs.default_verdict.Statement.{statement}
 use Rattle.definition.proofs.default_verdict.Tie as tie

@@ -5,11 +5,10 @@ use native.Mathlib.Omega.{arith}
 use borrow.Author.Rules.{rules}
 use Rattle.brackets.specs.Stacks.{over}
 use Rattle.brackets.proofs.Settling.{settled_as, settled_lent}
-use Rattle.afresh.specs.Verdicts.{verdict_of}
+use Rattle.afresh.specs.Feeding.{verdict_of}
 use Rattle.definition.specs.Definitions.{bad_formal}
 use Rattle.definition.proofs.Verdicts.{or_first, or_next, settled_bad, settled_good, told_good, told_bad, told_short}
-use Rattle.formals.proofs.Scanning.{none_behind, some_behind}
-use Rattle.definition.proofs.BadFormals.{named_none}
+use Rattle.definition.proofs.Scanning.{none_behind, some_behind, named_none}
 use Rattle.definition.proofs.formal_verdict.Statement.{statement}
 use Rattle.definition.proofs.formal_verdict.Tie as tie
 

@@ -7,12 +7,11 @@ use native.Mathlib.Omega.{arith}
 use lib.ListN.{length}
 use borrow.Author.Rules.{rules}
 use Rattle.brackets.specs.Stacks.{over}
-use Rattle.formals.specs.Extents.{Free}
+use Rattle.definition.specs.Extents.{Free}
 use Rattle.definition.specs.Definitions.{bad_among, bad_formals}
 use Rattle.definition.proofs.Verdicts.{settled_bad, settled_good, told_good, told_bad, told_short}
-use Rattle.formals.proofs.Onward.{read_free}
-use Rattle.formals.proofs.Scanning.{Scanning, scan_first, scan_said, scan_over, scan_last, scan_less, scan_next, scan_torn, scan_short, scan_out}
-use Rattle.definition.proofs.BadFormals.{bad_none, bad_here, bad_past}
+use Rattle.definition.proofs.Onward.{read_free}
+use Rattle.definition.proofs.Scanning.{Scanning, scan_first, scan_said, scan_over, scan_last, scan_less, scan_next, scan_torn, scan_short, scan_out, bad_none, bad_here, bad_past}
 use Rattle.definition.proofs.formals_verdict.Statement.{statement}
 use Rattle.definition.proofs.formals_verdict.Tie as tie
 

@@ -3,7 +3,7 @@
 use borrow.Author.Rules.{rules}
 use borrow.Author.Tests.{not-true, not-false}
 use Rattle.definition.proofs.Verdicts.{settled_good}
-use Rattle.definition.proofs.BadFormals.{bad_none}
+use Rattle.definition.proofs.Scanning.{bad_none}
 use Rattle.definition.proofs.Defining.{unlisted_none, listed_formals}
 use Rattle.definition.proofs.head_verdict.Statement.{statement}
 use Rattle.definition.proofs.head_verdict.Tie as tie

@@ -5,7 +5,8 @@ use native.Mathlib.Omega.{arith}
 use borrow.Author.Rules.{rules}
 use Rattle.brackets.specs.Stacks.{full, over}
 use Rattle.brackets.proofs.Settling.{settled_lent}
-use Rattle.formals.specs.Lists.{ill, whole, shape_by}
+use Rattle.definition.specs.Lists.{ill, whole}
+use Rattle.definition.specs.Definitions.{shape_by}
 use Rattle.definition.specs.Answers.{judged_of}
 use Rattle.definition.proofs.Defining.{told_shape, told_ill, told_few, defined_barred, defined_judged, defined_whole}
 use Rattle.definition.proofs.judge_definition.Statement.{statement}

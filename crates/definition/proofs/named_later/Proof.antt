@@ -10,8 +10,7 @@ use Rattle.text.specs.Bytes.{part}
 use Rattle.brackets.specs.Stacks.{over}
 use Rattle.definition.specs.Definitions.{named}
 use Rattle.definition.proofs.Verdicts.{settled_bad, settled_good}
-use Rattle.formals.proofs.Scanning.{Scanning, scan_first, scan_said, scan_last, scan_less, scan_next, scan_torn, scan_short, scan_out}
-use Rattle.definition.proofs.BadFormals.{named_none, named_here, named_past}
+use Rattle.definition.proofs.Scanning.{Scanning, scan_first, scan_said, scan_last, scan_less, scan_next, scan_torn, scan_short, scan_out, named_none, named_here, named_past}
 use Rattle.definition.proofs.named_later.Statement.{statement}
 use Rattle.definition.proofs.named_later.Tie as tie
 

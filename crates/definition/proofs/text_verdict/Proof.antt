@@ -3,7 +3,7 @@
 use mathlib.Core.Path.{ap}
 use borrow.Author.Rules.{rules}
 use Rattle.brackets.proofs.Settling.{settled_as}
-use Rattle.afresh.specs.Verdicts.{verdict_of}
+use Rattle.afresh.specs.Feeding.{verdict_of}
 use Rattle.judging.proofs.NothingMore.{nothing_more}
 use Rattle.definition.proofs.text_verdict.Statement.{statement}
 use Rattle.definition.proofs.text_verdict.Tie as tie

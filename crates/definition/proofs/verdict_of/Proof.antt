@@ -5,11 +5,11 @@ use native.Mathlib.Omega.{arith}
 use borrow.Author.Rules.{rules}
 use Rattle.brackets.specs.Stacks.{over}
 use Rattle.brackets.proofs.Settling.{settled_as, settled_lent}
-use Rattle.afresh.specs.Verdicts.{verdict_of}
+use Rattle.afresh.specs.Feeding.{verdict_of}
 use Rattle.definition.specs.Definitions.{bad_formals}
 use Rattle.definition.proofs.Verdicts.{settled_bad, told_good, told_bad, told_short}
 use Rattle.definition.proofs.Defining.{bad_name, bad_count, bad-formals, bad-text}
-use Rattle.formals.proofs.Onward.{text_free}
+use Rattle.definition.proofs.Onward.{text_free}
 use Rattle.definition.proofs.verdict_of.Statement.{statement}
 use Rattle.definition.proofs.verdict_of.Tie as tie
 

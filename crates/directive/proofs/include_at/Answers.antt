@@ -1,9 +1,8 @@
 use mathlib.Core.Path.{refl, sym, ◌∙◌}
-use Prim.Native.Nat.{◌-◌}
 use native.Mathlib.Omega.{arith}
 use Rattle.lex.specs.Tokens.{in_file}
 use Rattle.directive.specs.Include.{include_at}
-use Rattle.line_words.proofs.Wording.{token_goes, token_lies}
+use Rattle.directive.proofs.Wording.{token_goes, token_lies}
 use Rattle.directive.proofs.Including.{include_newline, include_wrapped, include_named, include_on, include_out}
 use Rattle.std.proofs.lemmas.Bool.{not_from_true, not_from_false}
 use Rattle.directive.proofs.include_at.Goals as goal

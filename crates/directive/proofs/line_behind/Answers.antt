@@ -1,9 +1,8 @@
 use mathlib.Core.Path.{refl, sym, ◌∙◌}
-use Prim.Native.Nat.{◌-◌}
 use native.Mathlib.Omega.{arith}
 use Rattle.lex.specs.Tokens.{in_file}
 use Rattle.directive.specs.Include.{behind_at}
-use Rattle.line_words.proofs.Wording.{token_goes}
+use Rattle.directive.proofs.Wording.{token_goes}
 use Rattle.directive.proofs.Including.{behind_newline, behind_wrapped, behind_on, behind_out}
 use Rattle.directive.proofs.line_behind.Goals as goal
 

@@ -1,5 +1,4 @@
 use mathlib.Core.Path.{refl, sym, ap, ◌∙◌}
-use Prim.Native.Nat.{◌-◌}
 use Rattle.lex.specs.declared.Scan.{Scan}
 use Rattle.directive.specs.declared.Raw.TheVariants.{Closed}
 use Rattle.directive.specs.Include.{raw_end}

@@ -1,7 +1,7 @@
 -- `dispatch::special` meets its contract.
 -- Assumes nothing.
 use borrow.Author.Rules.{rules}
-use Rattle.stage.proofs.Going.{as_act}
+use Rattle.steps.proofs.Going.{as_act}
 use Rattle.dispatch.proofs.Halting.{special_end, special_taken, special_hidden, special_skipped}
 use Rattle.dispatch.proofs.Taking.{reads_at, file_small, line_low}
 use Rattle.dispatch.proofs.special.Statement.{statement}

@@ -1,6 +1,6 @@
 -- `dispatch::take` meets its contract.
 -- Assumes nothing.
-use Rattle.stage.proofs.Going.{as_act, body_here, token_at_here}
+use Rattle.steps.proofs.Going.{as_act, body_here, token_at_here}
 use Rattle.dispatch.proofs.Taking.{reads_at, file_small, place_lent, usage_lent, define_ready, taken_usage, taken_define, taken_undef, taken_all, taken_include, taken_keep, taken_place}
 use borrow.Author.Rules.{rules}
 use Rattle.dispatch.proofs.take.Statement.{statement}

@@ -3,7 +3,7 @@
 use mathlib.Core.Path.{◌∙◌}
 use native.Mathlib.Omega.{arith}
 use borrow.Author.Rules.{rules}
-use Rattle.spelling.specs.Lent.{outer}
+use Rattle.expand.specs.Standing.{outer}
 use Rattle.expand.proofs.Running.{first_refused, named_small, expands_refused, usage_in, usage_stands, usage_barred, usage_ended, usage_run}
 use Rattle.expand.proofs.expand.Statement.{statement}
 use Rattle.expand.proofs.expand.Tie as tie

@@ -3,8 +3,7 @@
 use mathlib.Core.Path.{◌∙◌}
 use native.Mathlib.Omega.{arith}
 use borrow.Author.Rules.{rules}
-use Rattle.spelling.specs.Lent.{outer}
-use Rattle.expand.specs.Standing.{weight_of}
+use Rattle.expand.specs.Standing.{outer, weight_of}
 use Rattle.expand.proofs.Running.{Kept, kept_none, kept_more, Runs, runs_none, runs_less, runs_more, runs_all}
 use Rattle.expand.proofs.run.Statement.{statement}
 use Rattle.expand.proofs.run.Tie as tie

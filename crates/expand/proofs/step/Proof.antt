@@ -3,7 +3,7 @@
 use mathlib.Core.Path.{refl, sym, ◌∙◌}
 use native.Mathlib.Omega.{arith}
 use borrow.Author.Rules.{rules}
-use Rattle.spelling.specs.Lent.{outer}
+use Rattle.expand.specs.Standing.{outer}
 use Rattle.expand.proofs.Running.{step_none, step_full, step_wrote, step_replaced}
 use Rattle.expand.proofs.step.Statement.{statement}
 use Rattle.expand.proofs.step.Tie as tie

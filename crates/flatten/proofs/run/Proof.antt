@@ -3,7 +3,7 @@
 use Prim.Native.Nat.{ℕ}
 use mathlib.Core.Path.{refl, sym}
 use lib.ListN.{length-replicate}
-use Rattle.stage.specs.Standing.{bufs}
+use Rattle.steps.specs.Standing.{bufs}
 use Rattle.flatten.proofs.Whole.{filled, start_going, run_leaves}
 use Rattle.flatten.proofs.run.Statement.{statement}
 use Rattle.flatten.proofs.run.Tie as tie

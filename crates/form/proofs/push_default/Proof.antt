@@ -5,8 +5,8 @@ use native.Mathlib.Omega.{arith}
 use borrow.Author.Rules.{rules}
 use borrow.Author.Tests.{not-true, not-false}
 use Rattle.form.proofs.Working.{stored_front, stored_short}
-use Rattle.append.specs.Sized.{two}
-use Rattle.append.proofs.Pushing.{put_as, put_so, put_past, by_then, put_not}
+use Rattle.form.specs.Forms.{two}
+use Rattle.form.proofs.Pushing.{put_as, put_so, put_past, by_then, put_not}
 use Rattle.form.proofs.Formed.{default_plain, default_given}
 use Rattle.form.proofs.push_default.Statement.{statement}
 use Rattle.form.proofs.push_default.Tie as tie

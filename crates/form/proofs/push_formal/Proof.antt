@@ -3,9 +3,8 @@
 use mathlib.Core.Path.{refl}
 use native.Mathlib.Omega.{arith}
 use borrow.Author.Rules.{rules}
-use Rattle.append.specs.Sized.{default_form}
-use Rattle.form.specs.Forms.{default_by}
-use Rattle.append.proofs.Pushing.{put_so, put_past, by_then, put_not}
+use Rattle.form.specs.Forms.{default_by, default_form}
+use Rattle.form.proofs.Pushing.{put_so, put_past, by_then, put_not}
 use Rattle.form.proofs.push_formal.Statement.{statement}
 use Rattle.form.proofs.push_formal.Tie as tie
 

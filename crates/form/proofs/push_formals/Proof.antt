@@ -6,7 +6,7 @@ use mathlib.Core.Path.{◌∙◌}
 use native.Mathlib.Omega.{arith}
 use lib.ListN.{length}
 use borrow.Author.Rules.{rules}
-use Rattle.formals.proofs.Scanning.{scan_torn, scan_short, scan_less, scan_out}
+use Rattle.definition.proofs.Scanning.{scan_torn, scan_short, scan_less, scan_out}
 use Rattle.form.proofs.Working.{full_fewer}
 use Rattle.form.proofs.Walking.{Walking, walk_first, walk_fits, walk_next, walk_last, walk_full}
 use Rattle.form.proofs.push_formals.Statement.{statement}

@@ -5,7 +5,7 @@ use borrow.Author.Rules.{rules}
 use Rattle.text.specs.Bytes.{part}
 use Rattle.definition.specs.Definitions.{parameters_of}
 use Rattle.form.specs.Forms.{list_form}
-use Rattle.append.proofs.Pushing.{put_so, put_past, by_then, put_not}
+use Rattle.form.proofs.Pushing.{put_so, put_past, by_then, put_not}
 use Rattle.form.proofs.Formed.{head-form}
 use Rattle.form.proofs.push_head.Statement.{statement}
 use Rattle.form.proofs.push_head.Tie as tie

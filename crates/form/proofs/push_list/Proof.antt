@@ -6,7 +6,7 @@ use Prim.Native.Nat.{ℕ, ◌%◌}
 use native.Mathlib.Omega.{arith}
 use borrow.Author.Rules.{rules}
 use Rattle.definition.proofs.Defining.{unlisted_none, listed_formals}
-use Rattle.append.proofs.Pushing.{put_as, put_so, put_past, by_then, put_not}
+use Rattle.form.proofs.Pushing.{put_as, put_so, put_past, by_then, put_not}
 use Rattle.form.proofs.Formed.{forms_of, forms_none, list_counted}
 use Rattle.form.proofs.push_list.Statement.{statement}
 use Rattle.form.proofs.push_list.Tie as tie

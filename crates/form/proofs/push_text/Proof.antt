@@ -3,7 +3,7 @@
 use mathlib.Core.Logic.{inl}
 use borrow.Author.Rules.{rules}
 use Rattle.form.proofs.Working.{stored_front, stored_short}
-use Rattle.append.proofs.Pushing.{put_as}
+use Rattle.form.proofs.Pushing.{put_as}
 use Rattle.form.proofs.push_text.Statement.{statement}
 use Rattle.form.proofs.push_text.Tie as tie
 

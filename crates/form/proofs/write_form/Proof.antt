@@ -4,7 +4,7 @@ use mathlib.Core.Logic.{inl}
 use native.Mathlib.Omega.{arith}
 use lib.ListN.{length}
 use borrow.Author.Rules.{rules}
-use Rattle.formals.specs.Lists.{shape_by}
+use Rattle.definition.specs.Definitions.{shape_by}
 use Rattle.definition.proofs.Defining.{told_shape, told_ill, told_few}
 use Rattle.form.proofs.Formed.{form_as}
 use Rattle.form.proofs.Working.{full_fewer}

@@ -6,7 +6,7 @@ use borrow.Author.Rules.{rules}
 use Rattle.text.specs.Bytes.{part}
 use Rattle.storing.specs.Stored.{stored}
 use Rattle.definition.specs.Definitions.{parameters_of}
-use Rattle.append.proofs.Pushing.{put_so, put_past, put_short, by_then, put_not}
+use Rattle.form.proofs.Pushing.{put_so, put_past, put_short, by_then, put_not}
 use Rattle.form.proofs.Formed.{form_at, form_short}
 use Rattle.form.proofs.write_macro.Statement.{statement}
 use Rattle.form.proofs.write_macro.Tie as tie

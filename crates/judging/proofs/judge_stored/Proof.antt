@@ -9,7 +9,7 @@ use Rattle.lex.specs.Tokens.{in_definition, between, tokens}
 use Rattle.storing.specs.Stored.{piece, pieces, stored}
 use Rattle.storing.proofs.Reading.{token_past}
 use Rattle.storing.proofs.Joining.{pieces_out, pieces_past, pieces_stop, pieces_next, pieces_length}
-use Rattle.feeding.proofs.Feeding.{Feeding, feeding_next, feeding_short}
+use Rattle.judging.proofs.Feeding.{Feeding, feeding_next, feeding_short}
 use Rattle.judging.proofs.Verdicts.{starting, feeding_starts, sound_count, judged_end, judged_short}
 use Rattle.judging.proofs.judge_stored.Statement.{statement}
 use Rattle.judging.proofs.judge_stored.Tie as tie

@@ -6,7 +6,7 @@ use mathlib.Core.Path.{refl}
 use native.Mathlib.Nat.{le_refl}
 use lib.ListN.{length}
 use Rattle.text.specs.Bytes.{part}
-use Rattle.feeding.proofs.Feeding.{feeding_next, feeding_short}
+use Rattle.judging.proofs.Feeding.{feeding_next, feeding_short}
 use Rattle.judging.proofs.Verdicts.{feeding_starts, sound_count, judged_end, judged_short, part_whole}
 use Rattle.judging.proofs.judge_whole.Statement.{statement}
 use Rattle.judging.proofs.judge_whole.Tie as tie

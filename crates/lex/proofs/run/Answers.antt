@@ -1,5 +1,4 @@
-use mathlib.Core.Path.{refl, sym, ◌∙◌}
-use Prim.Native.Nat.{◌-◌}
+use mathlib.Core.Path.{sym, ◌∙◌}
 use Rattle.lex.proofs.Scanning.{run_stop, run_more, run_out}
 use Rattle.std.proofs.lemmas.Bool.{not_from_true, not_from_false}
 use Rattle.lex.proofs.run.Goals as goal
@@ -12,6 +11,3 @@ loop-i-preserved c = sym (run_more _ _ _ c.loop-i-test.true c.is_run.ensures (no
 
 pub returns : goal.returns
 returns c = sym (run_out _ _ _ c.loop-i-test.false) ∙ c.loop-i.invariant
-
-pub loop-i-init : goal.loop-i-init
-loop-i-init c = refl

@@ -43,23 +43,22 @@ use denote.Triple.Walked.{says, Stays, gave_slice, stay_none_slice, stay_none, w
 use types.SemTy.{cells, Arr}
 use denote.Array.{Array, array_val, array_vals, Array-repeat, Array-Lawful}
 use Rattle.handover.specs.Sizes.{HandOver}
-use Rattle.flattened.specs.declared.Flattened.{Flattened}
+use Rattle.flatten.specs.declared.Flattened.{Flattened}
 use Rattle.flatten.specs.Flattening.{lent, hand_over, Flattens}
-use Rattle.flattened.proofs.Flattened.TheLaws.{mir as FlaCell}
+use Rattle.flatten.proofs.Flattened.TheLaws.{mir as FlaCell}
 use Rattle.records.specs.declared.Record.{Record}
 use Rattle.records.specs.Records.{no_record, rows_of}
-use Rattle.lent.proofs.Calling.{doubles, answers}
+use Rattle.records.proofs.Calling.{doubles, answers}
 use Rattle.records.proofs.Record.TheLaws.{mir as Cell}
-use Rattle.records.proofs.Rec.{Row, val, vals, tells, lawful, makes, copies, zero_is}
-use Rattle.lent.proofs.Rec.{Fla, Fla-lawful, Five, Two}
+use Rattle.records.proofs.Rec.{Row, val, vals, tells, lawful, makes, copies, zero_is, Fla, Fla-lawful, Five, Two}
 use Rattle.own.specs.declared.Own.{Own}
 use Rattle.own.proofs.Own.TheLaws.{mir as OwnCell}
 use Rattle.own.proofs.Local.{local_in, local_kept, big_lit}
 use Rattle.own.proofs.Result.{Res, Res-lawful, Res-makes, res_is}
-use Rattle.lent.specs.contracts.flatten as flatten
-use Rattle.lent.proofs.flatten.Symbol as flatten-def
-use Rattle.lent.proofs.flatten.Symbol.{name as #flatten}
-use Rattle.lent.proofs.flatten.Met as flatten-thm
+use Rattle.records.specs.contracts.flatten as flatten
+use Rattle.records.proofs.flatten.Symbol as flatten-def
+use Rattle.records.proofs.flatten.Symbol.{name as #flatten}
+use Rattle.records.proofs.flatten.Met as flatten-thm
 use Rattle.own.specs.contracts.flatten.Key.{name as #key}
 use Rattle.own.specs.contracts.flatten as f
 use Rattle.own.proofs.flatten.Statement as stated
@@ -256,4 +255,4 @@ flatten-spec 𝓤 𝓛 𝓜 𝓡 =
     entered 𝓤 𝓛.H (triple_of 𝓛 f.signature (f.spec 𝓛 𝓜.mem 𝓡.run))
     (tables 𝓤 𝓛.H 𝓜 𝓡 code.env).C (tables 𝓤 𝓛.H 𝓜 𝓡 code.env).Λ #key code.function (code.unfolded 𝓤 𝓛.H 𝓜 𝓡)
     (meets 𝓛 𝓜.mem 𝓡.run (tables_of 𝓤 𝓛.H 𝓜 (tables 𝓤 𝓛.H 𝓜 𝓡 code.env))
-    (cited 𝓤 𝓛.H (To-flatten 𝓛 𝓜.mem 𝓡.run) 𝓜 𝓡 code.env #flatten flatten-def.routine code.calls-lent::flatten (flatten-thm.met 𝓤 𝓛 𝓜 𝓡)))
+    (cited 𝓤 𝓛.H (To-flatten 𝓛 𝓜.mem 𝓡.run) 𝓜 𝓡 code.env #flatten flatten-def.routine code.calls-records::flatten (flatten-thm.met 𝓤 𝓛 𝓜 𝓡)))

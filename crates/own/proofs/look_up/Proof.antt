@@ -38,16 +38,16 @@ use denote.Triple.Clauses.{lasts}
 use denote.Triple.Table.{entered, cited}
 use denote.Triple.Walked.{says, Stays, stay_none_slice, stay_none, walk_of, Walks, ends_at, walked, Goes-none_slice, Goes-none, walk_Meets}
 use lib.Dec.{lit<}
-use Rattle.look_up.specs.Looking.{Shows}
+use Rattle.macros.specs.Looking.{Shows}
 use Rattle.records.specs.Records.{rows_of}
-use Rattle.lent.proofs.Calling.{doubles, answers}
+use Rattle.records.proofs.Calling.{doubles, answers}
 use Rattle.records.proofs.Rec.{Row}
 use Rattle.own.proofs.Local.{big_lit}
 use Rattle.own.proofs.Rows.{Rows, Rows-mir, Rows-vals, Rows-tells, Rows-lawful, Rows-makes, rows_long, lying, sliced, Lender, lent_out, lent_in}
-use Rattle.lent.specs.contracts.look_up as look_up
-use Rattle.lent.proofs.look_up.Symbol as look-up-def
-use Rattle.lent.proofs.look_up.Symbol.{name as #look-up}
-use Rattle.lent.proofs.look_up.Met as look-up-thm
+use Rattle.records.specs.contracts.look_up as look_up
+use Rattle.records.proofs.look_up.Symbol as look-up-def
+use Rattle.records.proofs.look_up.Symbol.{name as #look-up}
+use Rattle.records.proofs.look_up.Met as look-up-thm
 use Rattle.own.specs.contracts.look_up.Key.{name as #key}
 use Rattle.own.specs.contracts.look_up as f
 use Rattle.own.proofs.look_up.Statement as stated
@@ -156,4 +156,4 @@ look-up-spec 𝓤 𝓛 𝓜 𝓡 =
     entered 𝓤 𝓛.H (triple_of 𝓛 f.signature (f.spec 𝓛 𝓜.mem 𝓡.run))
     (tables 𝓤 𝓛.H 𝓜 𝓡 code.env).C (tables 𝓤 𝓛.H 𝓜 𝓡 code.env).Λ #key code.function (code.unfolded 𝓤 𝓛.H 𝓜 𝓡)
     (meets 𝓛 𝓜.mem 𝓡.run (tables_of 𝓤 𝓛.H 𝓜 (tables 𝓤 𝓛.H 𝓜 𝓡 code.env))
-    (cited 𝓤 𝓛.H (To-look-up 𝓛 𝓜.mem 𝓡.run) 𝓜 𝓡 code.env #look-up look-up-def.routine code.calls-lent::look-up (look-up-thm.met 𝓤 𝓛 𝓜 𝓡)))
+    (cited 𝓤 𝓛.H (To-look-up 𝓛 𝓜.mem 𝓡.run) 𝓜 𝓡 code.env #look-up look-up-def.routine code.calls-records::look-up (look-up-thm.met 𝓤 𝓛 𝓜 𝓡)))

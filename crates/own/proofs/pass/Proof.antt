@@ -41,15 +41,14 @@ use lib.Dec.{lit<}
 use Rattle.pass.specs.Answer.{Passes}
 use Rattle.pass.specs.declared.Answer.{Answer}
 use Rattle.records.specs.Records.{rows_of}
-use Rattle.lent.proofs.Calling.{doubles, answers}
-use Rattle.records.proofs.Rec.{Row}
-use Rattle.lent.proofs.Rec.{Ans, Ans-lawful}
+use Rattle.records.proofs.Calling.{doubles, answers}
+use Rattle.records.proofs.Rec.{Row, Ans, Ans-lawful}
 use Rattle.own.proofs.Local.{big_lit}
 use Rattle.own.proofs.Rows.{Rows, Rows-mir, Rows-vals, Rows-tells, Rows-lawful, Rows-makes, rows_long, lying, sliced, Lender, lent_out, lent_in}
-use Rattle.lent.specs.contracts.pass as pass
-use Rattle.lent.proofs.pass.Symbol as pass-def
-use Rattle.lent.proofs.pass.Symbol.{name as #pass}
-use Rattle.lent.proofs.pass.Met as pass-thm
+use Rattle.records.specs.contracts.pass as pass
+use Rattle.records.proofs.pass.Symbol as pass-def
+use Rattle.records.proofs.pass.Symbol.{name as #pass}
+use Rattle.records.proofs.pass.Met as pass-thm
 use Rattle.own.specs.contracts.pass.Key.{name as #key}
 use Rattle.own.specs.contracts.pass as f
 use Rattle.own.proofs.pass.Statement as stated
@@ -149,4 +148,4 @@ pass_spec 𝓤 𝓛 𝓜 𝓡 =
     entered 𝓤 𝓛.H (triple_of 𝓛 f.signature (f.spec 𝓛 𝓜.mem 𝓡.run))
     (tables 𝓤 𝓛.H 𝓜 𝓡 code.env).C (tables 𝓤 𝓛.H 𝓜 𝓡 code.env).Λ #key code.function (code.unfolded 𝓤 𝓛.H 𝓜 𝓡)
     (meets 𝓛 𝓜.mem 𝓡.run (tables_of 𝓤 𝓛.H 𝓜 (tables 𝓤 𝓛.H 𝓜 𝓡 code.env))
-    (cited 𝓤 𝓛.H (To-pass 𝓛 𝓜.mem 𝓡.run) 𝓜 𝓡 code.env #pass pass-def.routine code.calls-lent::pass (pass-thm.met 𝓤 𝓛 𝓜 𝓡)))
+    (cited 𝓤 𝓛.H (To-pass 𝓛 𝓜.mem 𝓡.run) 𝓜 𝓡 code.env #pass pass-def.routine code.calls-records::pass (pass-thm.met 𝓤 𝓛 𝓜 𝓡)))

@@ -6,7 +6,7 @@ use mathlib.Core.Path.{◌≡◌, refl, sym, ap, ◌∙◌}
 use native.Mathlib.Omega.{arith}
 use lib.ListN.{length}
 use Rattle.definition.specs.Definitions.{Macro}
-use Rattle.finding.specs.Buffers.{Holds}
+use Rattle.store.specs.Buffers.{Holds}
 use Rattle.reach.specs.Reaching.{has_bit}
 use Rattle.passing.specs.Passing.{reaches, pass_from, pass_of}
 use Rattle.pass.specs.Answer.{answer_of}

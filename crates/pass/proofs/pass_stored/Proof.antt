@@ -1,7 +1,7 @@
 -- `pass::pass_stored` meets its contract.
 -- Assumes nothing.
 use native.Mathlib.Omega.{arith}
-use Rattle.uses.proofs.Rows.{rows_fit, closed_reaches}
+use Rattle.pass.proofs.Rows.{rows_fit, closed_reaches}
 use borrow.Author.Rules.{rules}
 use Rattle.pass.proofs.pass_stored.Statement.{statement}
 use Rattle.pass.proofs.pass_stored.Tie as tie

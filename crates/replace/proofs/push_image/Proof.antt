@@ -5,8 +5,8 @@ use native.Mathlib.Omega.{arith}
 use borrow.Author.Rules.{rules}
 use Rattle.sets.specs.Sets.{members}
 use Rattle.pending.specs.References.{pending_by}
-use Rattle.tidying.specs.Tidying.{tidy_all}
-use Rattle.values.proofs.Ready.{ready_on}
+use Rattle.replace.specs.Tidying.{tidy_all}
+use Rattle.replace.proofs.Ready.{ready_on}
 use Rattle.replace.proofs.Texts.{at_formal, image_value, image_kept, image_none, image_other, stored_fits}
 use Rattle.replace.proofs.push_image.Statement.{statement}
 use Rattle.replace.proofs.push_image.Tie as tie

@@ -14,10 +14,9 @@ use Rattle.pending.specs.Pending.{Pending}
 use Rattle.pending.specs.References.{pendings}
 use Rattle.pending.specs.Sources.{items_from, last_of}
 use Rattle.arguments.specs.Ranges.{Ranged}
-use Rattle.tidying.specs.Tidying.{tidy_all}
-use Rattle.values.specs.Placing.{Ready}
-use Rattle.values.proofs.Ready.{ready_first, ready_before}
-use Rattle.replace.specs.Placing.{MacroIn}
+use Rattle.replace.specs.Tidying.{tidy_all}
+use Rattle.replace.specs.Placing.{MacroIn, Ready}
+use Rattle.replace.proofs.Ready.{ready_first, ready_before}
 use Rattle.replace.proofs.Texts.{Placed, placed_none, placed_more, placed_full, placed_all, part_own, token_inside}
 use Rattle.replace.proofs.push_text.Statement.{statement}
 use Rattle.replace.proofs.push_text.Tie as tie

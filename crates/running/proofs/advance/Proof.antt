@@ -2,7 +2,7 @@
 -- Assumes nothing.
 use mathlib.Core.Path.{◌∙◌}
 use borrow.Author.Rules.{rules}
-use Rattle.stage.specs.Standing.{bufs}
+use Rattle.steps.specs.Standing.{bufs}
 use Rattle.running.proofs.Advancing.{advance_ended}
 use Rattle.running.proofs.Reaching.{Reaches, read_lent, reached_going, reached_here, reached_halts, advance_on, advance_stopped}
 use Rattle.running.proofs.advance.Statement.{statement}

@@ -3,7 +3,7 @@
 use mathlib.Core.Path.{refl, ◌∙◌}
 use native.Mathlib.Omega.{arith}
 use borrow.Author.Rules.{rules}
-use Rattle.stage.specs.Standing.{bufs}
+use Rattle.steps.specs.Standing.{bufs}
 use Rattle.running.proofs.Advancing.{Kept, Runs, runs_none, weight_of, runs_less, runs_more, runs_all}
 use Rattle.running.proofs.run_on.Statement.{statement}
 use Rattle.running.proofs.run_on.Tie as tie

@@ -1,8 +1,8 @@
 -- `store::define` meets its contract: the name at the front of the form finds the place.
 -- Assumes nothing.
-use Rattle.finding.specs.declared.Found.TheVariants.{At, Missing}
-use Rattle.store.proofs.ByName.{found_below}
-use Rattle.store.proofs.Redefining.{missing_place, define_found}
+use Rattle.store.specs.declared.Found.TheVariants.{At, Missing}
+use Rattle.store.proofs.Places.{found_below}
+use Rattle.store.proofs.Replacing.{missing_place, define_found}
 use borrow.Author.Rules.{rules}
 use Rattle.store.proofs.define.Statement.{statement}
 use Rattle.store.proofs.define.Tie as tie

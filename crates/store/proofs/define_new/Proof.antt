@@ -1,7 +1,6 @@
 -- `store::define_new` meets its contract: its three tests decide whether the macros fit.
 -- Assumes nothing.
-use Rattle.entries.proofs.Inserting.{live_fits}
-use Rattle.store.proofs.Additions.{no_number, no_record, no_bytes, inserts, put-in}
+use Rattle.store.proofs.Additions.{live_fits, no_number, no_record, no_bytes, inserts, put-in}
 use borrow.Author.Rules.{rules}
 use Rattle.store.proofs.define_new.Statement.{statement}
 use Rattle.store.proofs.define_new.Tie as tie

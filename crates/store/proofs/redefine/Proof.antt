@@ -1,7 +1,6 @@
 -- `store::redefine` meets its contract: the number of macros stays, so the bytes alone decide.
 -- Assumes nothing.
-use Rattle.entries.proofs.Replacing.{old_ordered, old_live, kept_fits}
-use Rattle.store.proofs.Redefining.{replace_room, redefine_refused, redefine_done}
+use Rattle.store.proofs.Replacing.{old_ordered, old_live, kept_fits, replace_room, redefine_refused, redefine_done}
 use borrow.Author.Rules.{rules}
 use Rattle.store.proofs.redefine.Statement.{statement}
 use Rattle.store.proofs.redefine.Tie as tie

@@ -1,7 +1,7 @@
 -- `store::undefine` meets its contract: the macro that the search finds is taken out.
 -- Assumes nothing.
 use native.Mathlib.Omega.{arith}
-use Rattle.store.proofs.ByName.{found_below, undefined_at, undefined_missing}
+use Rattle.store.proofs.Places.{found_below, undefined_at, undefined_missing}
 use borrow.Author.Rules.{rules}
 use Rattle.store.proofs.undefine.Statement.{statement}
 use Rattle.store.proofs.undefine.Tie as tie

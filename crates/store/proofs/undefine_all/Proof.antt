@@ -1,7 +1,7 @@
 -- `store::undefine_all` meets its contract: what is live is cleared, and the rest is blank already.
 -- Assumes nothing.
-use Rattle.finding.proofs.Entries.{rows_fit}
-use Rattle.entries.proofs.Inserting.{live_is, live_fits}
+use Rattle.store.proofs.Entries.{rows_fit}
+use Rattle.store.proofs.Additions.{live_is, live_fits}
 use Rattle.store.proofs.Emptying.{emptied}
 use borrow.Author.Rules.{rules}
 use Rattle.store.proofs.undefine_all.Statement.{statement}

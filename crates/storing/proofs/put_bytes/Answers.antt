@@ -1,5 +1,4 @@
 use mathlib.Core.List.{[], ◌∷◌}
-use Prim.Native.Nat.{◌-◌}
 use native.Mathlib.Omega.{arith}
 use Rattle.text.proofs.Matching.{part_more, part_none, part_out}
 use Rattle.storing.proofs.Adding.{adding_first, adding_length, adding_past, adding_end, adding_next, adding_short}

@@ -1,5 +1,4 @@
 use mathlib.Core.Bool.{false}
-use Prim.Native.Nat.{◌-◌}
 use native.Mathlib.Omega.{arith}
 use Rattle.text.proofs.Matching.{part_none, part_out}
 use Rattle.storing.proofs.Adding.{adding_first, adding_past, adding_last, adding_next, adding_short}

@@ -1,5 +1,4 @@
-use mathlib.Core.Path.{refl, sym, ◌∙◌}
-use Prim.Native.Nat.{◌-◌}
+use mathlib.Core.Path.{sym, ◌∙◌}
 use Rattle.text.proofs.Matching.{holds_out, holds_hit, holds_miss, holds_none}
 use Rattle.text.proofs.holds_in.Goals as goal
 
@@ -14,6 +13,3 @@ loop-i-preserved c = sym (holds_miss _ _ _ _ c.loop-i-test.true c.if-i-s.false c
 
 pub returns : goal.returns
 returns c = sym (holds_none _ _ _ _ c.loop-i-test.false) ∙ c.loop-i.invariant
-
-pub loop-i-init : goal.loop-i-init
-loop-i-init c = refl

@@ -1,2 +1,0 @@
-pub mod Heading
-pub mod Adding

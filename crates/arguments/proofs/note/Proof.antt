@@ -1,0 +1,14 @@
+-- `arguments::note` meets its contract.
+-- Assumes nothing.
+use mathlib.Core.Path.{sym}
+use lib.Seq.{set_out}
+use borrow.Author.Rules.{rules}
+use Rattle.arguments.proofs.note.Statement.{statement}
+use Rattle.arguments.proofs.note.Tie as tie
+
+returns-2 : tie.Need-returns-2
+returns-2 c = sym (set_out _ _ _ c.if1.false)
+
+pub note-spec : {M : Type 1} → statement M
+note-spec = tie.close (tie.spec
+    (λ c. search rules) (λ c. search rules) (λ c. search rules) (λ c. search rules) returns-2)

@@ -1,3 +1,0 @@
-pub mod Expansions
-pub mod Calling
-pub mod Counting

@@ -1,4 +1,0 @@
-pub mod Testing
-pub mod Trimmed
-pub mod Orders
-pub mod Behind

@@ -1,0 +1,84 @@
+-- Past a grave accent name: never back before its end; and a definition as it was judged.
+-- Assumes nothing.
+use Prim.Native.Nat.{ℕ, ◌≤◌}
+use mathlib.Core.Bool.{Bool}
+use mathlib.Core.List.{List, []}
+use mathlib.Core.Path.{◌≡◌, refl, sym, ap, subst, ◌∙◌}
+use native.Mathlib.Omega.{arith}
+use lib.Dec.{eqb}
+use Rattle.lex.specs.Tokens.{name_of}
+use Rattle.lex.specs.declared.Token.{Token}
+use Rattle.lex.proofs.Tests.{by_test}
+use Rattle.names.specs.Names.{Define, directive_of}
+use Rattle.directive.specs.Forms.{form_at}
+use Rattle.directive.specs.declared.Value.{Value}
+use Rattle.directive.specs.declared.Form.{Form}
+use Rattle.directive.specs.declared.Form.TheVariants as form
+use Rattle.directive.proofs.Advance.{form_past}
+use Rattle.definition.specs.Definitions.{Macro, Definition, barred, bad, good, definition_at}
+use Rattle.definition.specs.Answers.{judged_of}
+use Rattle.definition.specs.declared.Judged.{Judged}
+use Rattle.definition.specs.declared.Judged.TheVariants as judged
+use Rattle.definition.proofs.Advance.{definition_past}
+use Rattle.conditions.specs.Grammar.{is_defined, condition_at}
+use Rattle.conditions.specs.declared.Condition.{Condition}
+use Rattle.conditions.specs.declared.Condition.TheVariants.{Truth, Refused}
+use Rattle.conditions.proofs.Parts.{condition_past}
+use Rattle.classify.specs.declared.Past.{Past}
+use Rattle.classify.specs.declared.Past.TheVariants.{On, Stop}
+use Rattle.classify.specs.Words.{by_form, by_definition, by_condition, takes_condition, past_directive, past_grave}
+
+-- past a definition whose word ends at e, as it was judged
+abbrev pub by_judged : ℕ → ℕ → Judged → Past
+by_judged v e (judged.Barred n p) = Stop n p
+by_judged v e (judged.Bad e') = On e v
+by_judged v e (judged.Good e') = On e' v
+by_judged v e judged.Short = On e v
+
+by-judged : (v e : ℕ) (d : Definition) → by_judged v e (judged_of d) ≡ by_definition v e d
+by-judged v e (barred n p) = refl
+by-judged v e (bad e') = refl
+by-judged v e (good m e') = refl
+
+pub judged_past : (v : ℕ) (s : List ℕ) (i : ℕ) (r x : Judged) → r ≡ judged_of (definition_at s i) → r ≡ x → by_judged v i x ≡ by_definition v i (definition_at s i)
+judged_past v s i r x a b = ap (by_judged v i) (sym b ∙ a) ∙ by-judged v i (definition_at s i)
+
+-- where to read on lies at i or later
+unfoldable pub OnPast : ℕ → Past → Type 0
+OnPast i (On e v) = i ≤ e
+OnPast i (Stop n p) = Unit {0}
+
+module _ (v₀ v i : ℕ) where
+  form_on : (f : Form) → ((x : Value) (e : ℕ) → f ≡ form.Formed x e → i ≤ e) → OnPast i (by_form v₀ v i f)
+  unfolding OnPast
+  form_on (form.Formed x e) h = h x e refl
+  form_on form.Unformed h = omega arith
+  form_on (form.Barred n p) h = tt
+
+  definition_on : (d : Definition) → ((m : Macro) (e : ℕ) → d ≡ good m e → i ≤ e) → OnPast i (by_definition v i d)
+  unfolding OnPast
+  definition_on (barred n p) h = tt
+  definition_on (bad e) h = omega arith
+  definition_on (good m e) h = h m e refl
+
+  condition_on : (c : Condition) → ((b : Bool) (e : ℕ) → c ≡ Truth b e → i ≤ e) → OnPast i (by_condition v i c)
+  unfolding OnPast
+  condition_on (Truth b e) h = h b e refl
+  condition_on (Refused n p) h = by_test (OnPast i) (eqb n 7) (λ q. omega arith) (λ q. tt)
+
+module _ (v₀ v : ℕ) (s : List ℕ) (t : Token) where
+  directive_on : (d : ℕ) → OnPast t.end (past_directive d v₀ v s t)
+  unfolding past_directive
+  directive_on d =
+      by_test (OnPast t.end) (eqb d Define) (λ q. definition_on v₀ v t.end (definition_at s t.end) (λ m e. definition_past s t.end e m))
+      (λ q. by_test (OnPast t.end) (takes_condition d)
+      (λ q. condition_on v₀ v t.end (condition_at s (is_defined []) t) (condition_past s (is_defined []) t))
+      (λ q. form_on v₀ v t.end (form_at d s t.end) (λ x e. form_past d s t.end e x)))
+
+  pub grave_on : OnPast t.end (past_grave v₀ v s t)
+  unfolding past_grave
+  grave_on = directive_on (directive_of (name_of s t))
+
+  pub grave_past : (p : Past) (e v' : ℕ) → p ≡ past_grave v₀ v s t → p ≡ On e v' → t.end ≤ e
+  unfolding OnPast
+  grave_past p e v' a b = subst (OnPast t.end) b (rw a grave_on)

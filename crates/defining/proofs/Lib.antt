@@ -1,3 +1,0 @@
-pub mod Hiding
-pub mod Undefining
-pub mod Definitions

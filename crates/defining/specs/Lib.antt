@@ -1,2 +1,0 @@
-pub mod Hiding
-pub mod Defining

@@ -1,4 +1,0 @@
-pub mod Rooms
-pub mod Places
-pub mod Inserting
-pub mod Replacing

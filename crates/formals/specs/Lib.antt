@@ -1,4 +1,0 @@
-pub mod Extents
-pub mod Heads
-pub mod Lists
-pub mod Answers

@@ -1,6 +1,0 @@
--- `directive::is_between` meets its contract. What it calls gives its parts.
--- Assumes nothing.
-use Rattle.line_words.proofs.is_between.Goals as goal
-
-pub returns : goal.returns
-returns c = rw (c.is_gap.ensures, c.holds_in.ensures)

@@ -1,0 +1,82 @@
+-- What look up shows: a name without a leading `\`, the form of the macro found, and nothing of a store that no definitions leave.
+-- Assumes nothing.
+use mathlib.Core.Path.{◌≡◌, refl, sym, ap, ◌∙◌, subst}
+use mathlib.Core.List.{List, [], ◌∷◌}
+use Prim.Native.Nat.{ℕ, suc, ◌-◌, ◌≤◌}
+use native.Mathlib.Omega.{arith}
+use borrow.Author.Tests.{eq-eqb, ne_eqb}
+use lib.Dec.{eqb}
+use lib.ListN.{length, get_or}
+use lib.Seq.{take_all}
+use Rattle.text.specs.Bytes.{part}
+use Rattle.lex.proofs.Tests.{by_test}
+use Rattle.definition.specs.Definitions.{Macro}
+use Rattle.form.specs.Forms.{form_of}
+use Rattle.store.specs.Stores.{macro_at, find}
+use Rattle.store.specs.Buffers.{Holds}
+use Rattle.store.specs.declared.Found.{Found}
+use Rattle.store.specs.declared.Found.TheVariants.{At, Missing}
+use Rattle.store.proofs.Places.{found_below}
+use Rattle.genuine.specs.Layout.{left_in}
+use Rattle.genuine.specs.declared.Checked.{Checked}
+use Rattle.genuine.specs.declared.Checked.TheVariants.{Left, Foreign}
+use Rattle.genuine.proofs.Accepting.{left_complete}
+use Rattle.macros.specs.Looking.{plainly, shown_by, shown, Shows}
+
+-- ---- a name
+
+pub plain_none : (w : List ℕ) → length w ≡ 0 → w ≡ plainly w
+plain_none [] h = refl
+plain_none (x ∷ w) h = absurd (omega arith)
+
+pub plain_cut : (w : List ℕ) → (length w ≡ 0 → ⊥) → get_or w 0 0 ≡ 92 → part w 1 (length w) ≡ plainly w
+plain_cut [] h e = absurd (h refl)
+plain_cut (x ∷ w) h e = rw (eq-eqb x 92 e) (take_all (length (x ∷ w) - 1) w (omega arith))
+
+pub plain_same : (w : List ℕ) → (get_or w 0 0 ≡ 92 → ⊥) → w ≡ plainly w
+plain_same [] h = refl
+plain_same (x ∷ w) h = rw (ne_eqb x 92 h)
+
+pub plain_shorter : (w : List ℕ) {y : List ℕ} → y ≡ plainly w → length y ≤ length w
+plain_shorter w e = omega (arith, ap length e, go w)
+  where
+    go : (w : List ℕ) → length (plainly w) ≤ length w
+    go [] = omega arith
+    go (x ∷ w) = by_test (λ (l : List ℕ). length l ≤ suc (length w)) (eqb x 92) (λ e. omega arith) (λ e. omega arith)
+
+-- ---- a macro
+
+module _ (w : List ℕ) {ms : List Macro} {b : List ℕ} {r : List (List ℕ)} {n : ℕ} {f : Found} (h : Holds ms b r n) (e : f ≡ find w ms) where
+  shown_by : (g : Found) → f ≡ g → shown w ms ≡ shown_by g ms
+  unfolding shown
+  shown_by g a = ap (λ (x : Found). shown_by x ms) (sym e ∙ a)
+
+  pub shown_at : (i : ℕ) → f ≡ At i → {p : List ℕ} → p ≡ form_of (macro_at ms i) → p ≡ shown w ms
+  shown_at i a q = q ∙ sym (shown_by (At i) a)
+
+  pub shown_past : (i : ℕ) → f ≡ At i → n ≤ i → {p : List ℕ} → p ≡ shown w ms
+  shown_past i a l = absurd (omega (arith, found_below w h e i a))
+
+  pub shown_missing : (i : ℕ) → f ≡ Missing i → {p : List ℕ} → p ≡ [] → p ≡ shown w ms
+  shown_missing i a q = q ∙ sym (shown_by (Missing i) a)
+
+-- ---- a store
+
+module _ {b : List ℕ} {r : List (List ℕ)} {name p : List ℕ} {c : Checked} (e : c ≡ left_in b r) where
+  pub shows_left : (n : ℕ) → c ≡ Left n → (w : List ℕ) → w ≡ plainly name → ((ms : List Macro) → Holds ms b r n → p ≡ shown w ms)
+      → Shows b r name p
+  shows_left n k w q s = record {
+    left = λ ms l.
+        let g : left_in b r ≡ Left (length ms) = left_complete ms b r l in
+        let z : n ≡ length ms = cc in
+        s ms (subst (λ (i : ℕ). Holds ms b r i) (sym z) l.holds) ∙ ap (λ (v : List ℕ). shown v ms) q;
+    foreign = λ g. cc;
+  }
+
+  pub shows_foreign : c ≡ Foreign → p ≡ [] → Shows b r name p
+  shows_foreign k q = record {
+    left = λ ms l.
+        let g : left_in b r ≡ Left (length ms) = left_complete ms b r l in
+        cc;
+    foreign = λ g. q;
+  }

@@ -1,3 +1,0 @@
-pub mod Writing
-pub mod PlaceWords
-pub mod Usages

@@ -1,4 +1,0 @@
-pub mod Feeding
-pub mod Singles
-pub mod Signs
-pub mod Names

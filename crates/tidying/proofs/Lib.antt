@@ -1,3 +1,0 @@
-pub mod Tidying
-pub mod Trimming
-pub mod Keeping

@@ -1,2 +1,0 @@
-pub mod Unfolding
-pub mod Texts

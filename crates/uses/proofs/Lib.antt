@@ -1,2 +1,0 @@
-pub mod Using
-pub mod Rows

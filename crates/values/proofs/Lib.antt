@@ -1,4 +1,0 @@
-pub mod Formals
-pub mod Values
-pub mod Again
-pub mod Ready

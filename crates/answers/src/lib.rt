@@ -4,6 +4,7 @@
 use classify::Classified;
 use delivery::deliver;
 use flatten::Flattened;
+use inputs::{fail_at, is_gone};
 use messages::{complain, say, say_refusal, say_refused};
 use options::PASS;
 use own::Own;
@@ -14,6 +15,7 @@ use plan::{
 use records::Record;
 use refusals::{refuse, sum_up};
 use search::say_missing;
+use std::io::{Error, Result};
 use std::rt::Files;
 use text::part_of;
 use warnings::warn_all;
@@ -25,6 +27,31 @@ pub const REFUSED: u8 = 49;
 // Bad usage, or a file that cannot be read or written.
 pub const FAILED: u8 = 50;
 
+// The reader of an output went away: there is no answer.
+pub const GONE: u8 = 0;
+
+// The digit where standard output could not be written, with a message unless its reader went away.
+pub fn fail_output(error: Error) -> u8 {
+    if is_gone(error) {
+        return GONE;
+    }
+    fail_at(b"standard output", error);
+    FAILED
+}
+
+// The digit where words were written to standard output: it is of no account whether they all were, unless its reader went away.
+pub fn said(written: Result<()>) -> u8 {
+    match written {
+        Ok(()) => DONE,
+        Err(error) => {
+            if is_gone(error) {
+                return GONE;
+            }
+            DONE
+        }
+    }
+}
+
 // The name of macro `i`.
 fn name_at<'a>(bytes: &'a [u8], records: [Record; 4096], i: usize) -> &'a [u8] {
     if 4096 <= i {
@@ -35,13 +62,10 @@ fn name_at<'a>(bytes: &'a [u8], records: [Record; 4096], i: usize) -> &'a [u8] {
 }
 
 // Pass, on the macros that are left.
-fn answer_pass(bytes: &[u8], records: [Record; 4096]) -> u8 {
+fn answer_pass(rt: &HostRuntime, bytes: &[u8], records: [Record; 4096]) -> u8 {
     let p = own::pass(bytes, records);
     match p {
-        pass::Answer::Yes => {
-            outputs::say(b"pass: yes\n");
-            DONE
-        }
+        pass::Answer::Yes => said(outputs::say(&mut rt.stdout(), b"pass: yes\n")),
         pass::Answer::Foreign => {
             say(b"arborstitch: pass: ");
             say_refused(1);
@@ -66,10 +90,7 @@ fn answer_lookup(rt: &HostRuntime, name: &[u8], bytes: &[u8], records: [Record; 
     }
     match outputs::show_macro(&mut rt.stdout(), form, macros::plain_name(name).len()) {
         Ok(()) => DONE,
-        Err(error) => {
-            inputs::fail_at(b"standard output", error);
-            FAILED
-        }
+        Err(error) => fail_output(error),
     }
 }
 
@@ -95,7 +116,11 @@ fn note_counts(r: Flattened, c: Classified, plan: &mut [usize]) {
 
 fn answer_written(written: bool, r: Flattened, plan: &[usize]) -> u8 {
     if !written {
-        return FAILED;
+        return if get(plan, plan::GONE) == 0 {
+            FAILED
+        } else {
+            GONE
+        };
     }
     if get(plan, QUIET) == 0 {
         sum_up(r);
@@ -273,7 +298,7 @@ pub fn answer_macros(
     records: [Record; 4096],
 ) -> u8 {
     if command == PASS {
-        return answer_pass(bytes, records);
+        return answer_pass(rt, bytes, records);
     }
     answer_lookup(rt, name, bytes, records)
 }

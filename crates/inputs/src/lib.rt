@@ -5,7 +5,7 @@ use identity::text_of;
 use messages::complain;
 use std::fmt::InlineText;
 use std::fs::File;
-use std::io::{Error, Read, Result};
+use std::io::{Error, ErrorKind, Read, Result};
 use std::rt::Files;
 
 // How many bytes were read; or there is no room for more; or they cannot be read.
@@ -20,6 +20,11 @@ pub enum Got {
 pub fn fail_at(path: &[u8], error: Error) {
     let all = InlineText::<128>::of(error);
     complain(path, words_of(all.as_str()).as_bytes());
+}
+
+// Whether an error says that the reader of a pipe went away.
+pub fn is_gone(error: Error) -> bool {
+    error.kind() == ErrorKind::BrokenPipe
 }
 
 // An error's text without the number that std puts behind it.

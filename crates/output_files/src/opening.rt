@@ -3,8 +3,9 @@ ghost use Rattle.std.specs.Prelude.{◌<◌};
 
 use crate::targets::{base_start, is_special, is_standard, real_path};
 use identity::{Identity, is_regular, is_same, of_descriptor, of_path, text_of};
+use inputs::is_gone;
 use messages::{STDERR_FILENO, STDOUT_FILENO, WRAPPER};
-use plan::{WAYS, append, get, output_path, put};
+use plan::{GONE, WAYS, append, get, output_path, put};
 use std::fs::{File, OpenOptions, Permissions};
 use std::io::{Error, ErrorKind, Result, Stderr, Stdout, Write};
 use std::os::unix::fs::PermissionsExt;
@@ -247,13 +248,22 @@ fn close(to: Sink, is_new: bool, written: Result<()>) -> Result<()> {
     }
 }
 
-// Closes output `k`; whether it was written, and a message where it was not.
-pub fn close_output(k: usize, line: &[u8], plan: &[usize], to: Sink, written: Result<()>) -> bool {
-    let path = output_path(line, plan, k);
+// Closes output `k`; whether it was written, and a message where it was not, unless its reader went away.
+pub fn close_output(
+    k: usize,
+    line: &[u8],
+    plan: &mut [usize],
+    to: Sink,
+    written: Result<()>,
+) -> bool {
     match close(to, get(plan, way_slot(k)) == NEW, written) {
         Ok(()) => true,
         Err(error) => {
-            fail_at(path, error);
+            if is_gone(error) {
+                put(plan, GONE, 1);
+            } else {
+                fail_at(output_path(line, plan, k), error);
+            }
             false
         }
     }

@@ -21,7 +21,13 @@ fn pour_entry(
 }
 
 // The map: a line for each line of the text, with its number, its file and the line there.
-pub fn write_map(to: &mut impl Write, store: &[u8], paths: &[[u32; 3]], map: &[u32], lines: usize) -> Result<()> {
+pub fn write_map(
+    to: &mut impl Write,
+    store: &[u8],
+    paths: &[[u32; 3]],
+    map: &[u32],
+    lines: usize,
+) -> Result<()> {
     let mut out = [0u8; 65536];
     let mut n = 0;
     let mut i = 0;
@@ -36,7 +42,13 @@ pub fn write_map(to: &mut impl Write, store: &[u8], paths: &[[u32; 3]], map: &[u
 }
 
 // A word: offset, length, 1 if reserved, and the word.
-fn pour_word(to: &mut impl Write, out: &mut [u8], n: usize, text: &[u8], w: [u32; 3]) -> Result<usize> {
+fn pour_word(
+    to: &mut impl Write,
+    out: &mut [u8],
+    n: usize,
+    text: &[u8],
+    w: [u32; 3],
+) -> Result<usize> {
     let a = pour_field(to, out, n, w[0] as usize)?;
     let b = pour_field(to, out, a, w[1] as usize)?;
     let c = pour_field(to, out, b, w[2] as usize)?;

@@ -50,7 +50,13 @@ fn mark_name<'a>(store: &'a [u8], table: &[[u32; 5]], paths: &[[u32; 3]], k: usi
 }
 
 // A mark: the next line is that line of the file of that name.
-fn pour_mark(to: &mut impl Write, out: &mut [u8], n: usize, name: &[u8], number: usize) -> Result<usize> {
+fn pour_mark(
+    to: &mut impl Write,
+    out: &mut [u8],
+    n: usize,
+    name: &[u8],
+    number: usize,
+) -> Result<usize> {
     let a = pour(to, out, n, b"`line ")?;
     let b = pour_number(to, out, a, number)?;
     let c = pour(to, out, b, b" \"")?;

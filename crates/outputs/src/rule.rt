@@ -34,7 +34,13 @@ fn pour_path(to: &mut impl Write, out: &mut [u8], n: usize, path: &[u8]) -> Resu
 }
 
 // A file that the text is made from, if it is used.
-fn pour_used(to: &mut impl Write, out: &mut [u8], n: usize, path: &[u8], used: bool) -> Result<usize> {
+fn pour_used(
+    to: &mut impl Write,
+    out: &mut [u8],
+    n: usize,
+    path: &[u8],
+    used: bool,
+) -> Result<usize> {
     if !used {
         return Ok(n);
     }

@@ -3,9 +3,9 @@ ghost use Rattle.std.specs.Prelude.{◌≤◌};
 
 use crate::gathering::{flush, pour};
 use genuine::{formal_end, formal_name, mark_at};
+use macros::is_start_name;
 use plan::wide;
 use records::Record;
-use macros::is_start_name;
 use std::io::{Error, ErrorKind, Result, Write};
 use text::{holds_in, part_of, peek, two_at};
 
@@ -45,7 +45,13 @@ fn pour_default(to: &mut impl Write, out: &mut [u8], n: usize, w: &[u8]) -> Resu
 }
 
 // The formal at `i` of a stored form, with its default.
-fn pour_formal(to: &mut impl Write, out: &mut [u8], n: usize, form: &[u8], i: usize) -> Result<usize>
+fn pour_formal(
+    to: &mut impl Write,
+    out: &mut [u8],
+    n: usize,
+    form: &[u8],
+    i: usize,
+) -> Result<usize>
     requires { i ≤ 65536 }
 {
     let a = pour_name(to, out, n, formal_name(form, i))?;
@@ -78,7 +84,14 @@ struct Poured {
 }
 
 // The `count` formals at `at` of a stored form.
-fn pour_formals(to: &mut impl Write, out: &mut [u8], n: usize, form: &[u8], at: usize, count: usize) -> Result<Poured> {
+fn pour_formals(
+    to: &mut impl Write,
+    out: &mut [u8],
+    n: usize,
+    form: &[u8],
+    at: usize,
+    count: usize,
+) -> Result<Poured> {
     let mut i = at;
     let mut a = n;
     let mut k = 0;
@@ -103,7 +116,13 @@ fn pour_end(to: &mut impl Write, out: &mut [u8], n: usize, count: usize) -> Resu
 }
 
 // The head of a definition: its name and its formals, by the stored form and the length of the name.
-fn pour_head(to: &mut impl Write, out: &mut [u8], n: usize, form: &[u8], name: usize) -> Result<Poured> {
+fn pour_head(
+    to: &mut impl Write,
+    out: &mut [u8],
+    n: usize,
+    form: &[u8],
+    name: usize,
+) -> Result<Poured> {
     let a = pour(to, out, n, b"`define ")?;
     let b = pour_name(to, out, a, part_of(form, 0, name))?;
     let count = peek(form, name) as usize;
@@ -126,7 +145,13 @@ fn pour_text(to: &mut impl Write, out: &mut [u8], n: usize, w: &[u8]) -> Result<
 }
 
 // A macro as a definition of it, by its stored form and the length of its name.
-fn pour_macro(to: &mut impl Write, out: &mut [u8], n: usize, form: &[u8], name: usize) -> Result<usize> {
+fn pour_macro(
+    to: &mut impl Write,
+    out: &mut [u8],
+    n: usize,
+    form: &[u8],
+    name: usize,
+) -> Result<usize> {
     let p = pour_head(to, out, n, form, name)?;
     let a = pour_text(to, out, p.n, part_of(form, p.at, form.len()))?;
     pour(to, out, a, b"\n")
@@ -140,14 +165,25 @@ pub fn show_macro(to: &mut impl Write, form: &[u8], name: usize) -> Result<()> {
 }
 
 // The definition of the macro with that record.
-fn pour_record(to: &mut impl Write, out: &mut [u8], n: usize, bytes: &[u8], r: Record) -> Result<usize> {
+fn pour_record(
+    to: &mut impl Write,
+    out: &mut [u8],
+    n: usize,
+    bytes: &[u8],
+    r: Record,
+) -> Result<usize> {
     let end = wide(r.text_start) + wide(r.text_length);
     let form = part_of(bytes, wide(r.start), end);
     pour_macro(to, out, n, form, wide(r.name_length))
 }
 
 // Writes the first `count` macros.
-pub fn write_defines(to: &mut impl Write, bytes: &[u8], records: [Record; 4096], count: usize) -> Result<()> {
+pub fn write_defines(
+    to: &mut impl Write,
+    bytes: &[u8],
+    records: [Record; 4096],
+    count: usize,
+) -> Result<()> {
     let mut out = [0u8; 65536];
     let mut n = 0;
     let mut i = 0;

@@ -1,7 +1,7 @@
 // What the command does with the files that it read. Each answer is a digit.
 #![tactic(auto)]
 
-use answers::{DONE, FAILED, Left, REFUSED, answer_macros, finish};
+use answers::{DONE, Left, REFUSED, answer_macros, fail_output, finish};
 use flattening::flatten_found;
 use messages::say_refusal;
 use options::{FLATTEN, PASS};
@@ -94,9 +94,6 @@ pub fn list_words(
     }
     match outputs::write_words(&mut rt.stdout(), body, &words, c.words) {
         Ok(()) => DONE,
-        Err(error) => {
-            inputs::fail_at(b"standard output", error);
-            FAILED
-        }
+        Err(error) => fail_output(error),
     }
 }

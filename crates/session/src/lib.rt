@@ -1,7 +1,7 @@
 // The command from its arguments to its answer: help, or the plan checked and carried out.
 #![tactic(auto)]
 
-use answers::{DONE, FAILED};
+use answers::{DONE, FAILED, GONE, said};
 use command_line::read_words;
 use messages::{WRAPPER, complain};
 use options::{CLASSIFY, SHOW_HELP, SHOW_VERSION};
@@ -50,7 +50,7 @@ fn carry_out(
         return FAILED;
     }
     let digit = run(rt, line, rows, plan, store, table, paths, starts, bytes);
-    if (digit != DONE) & (get(plan, CLASH) == 0) {
+    if (digit != DONE) & (digit != GONE) & (get(plan, CLASH) == 0) {
         delivery::set_all_aside(rt, line, plan);
     }
     digit
@@ -95,12 +95,10 @@ pub fn answer(
         return FAILED;
     }
     if get(plan, COMMAND) == SHOW_HELP {
-        help::print_help();
-        return DONE;
+        return said(help::print_help(&mut rt.stdout()));
     }
     if get(plan, COMMAND) == SHOW_VERSION {
-        help::print_version();
-        return DONE;
+        return said(help::print_version(&mut rt.stdout()));
     }
     let heard = identity::of_descriptor(rt, WRAPPER);
     if !heard.found {

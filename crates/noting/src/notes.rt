@@ -3,8 +3,8 @@
 use crate::includes::is_late;
 use crate::tallies::{SEEN, STOPPED, VAGUE};
 use definition::{extent_at, head_at};
-use lex::{ESCAPED, NAME, Token, in_definition, token_at};
 use directive::{Word, word_at, word_start};
+use lex::{ESCAPED, NAME, Token, in_definition, token_at};
 use names::{DEFINE, UNDEFINE_ALL};
 use places::newlines_in;
 use plan::{count_up, get, put, sum, to_u32, wide};

@@ -56,6 +56,7 @@ or_there false r e = e
 
 in_elem : (j : ℕ) (l : List ℕ) → In j l → elem j l ≡ true
 unfolding elem
+in_elem j [] x' = elim x' [ ]
 in_elem j (x ∷ l) (first e) = ap (λ (t : Bool). cond t true (elem j l)) (eq-eqb j x e)
 in_elem j (x ∷ l) (later m) = or_there (eqb j x) (elem j l) (in_elem j l m)
 

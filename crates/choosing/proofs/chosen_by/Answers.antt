@@ -1,0 +1,9 @@
+-- `choosing::chosen_by` meets its contract.
+-- Assumes nothing.
+use Rattle.choosing.proofs.chosen_by.Goals as goal
+
+pub returns-in-To : goal.returns-in-To
+returns-in-To c = rw c.in-To.is
+
+pub returns-in-Refused : goal.returns-in-Refused
+returns-in-Refused c = rw c.in-Refused.is

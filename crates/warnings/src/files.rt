@@ -56,11 +56,7 @@ fn place_as(
     if is_root(paths, k) {
         return 0;
     }
-    if is_same_file(
-        files,
-        path_at(store, paths, root),
-        path_at(store, paths, k),
-    ) {
+    if is_same_file(files, path_at(store, paths, root), path_at(store, paths, k)) {
         return place;
     }
     0

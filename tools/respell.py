@@ -20,8 +20,7 @@ def snake(name):
     if re.match(r"[a-z][^-]*[A-Z]|[a-z].*-|.*′", name):
         s = name.replace('′', "'")
         if re.match(r'[a-z]', s):
-            s = re.sub(r"(?<=[a-z0-9'])([A-Z])", lambda m: '_' + m.group(1).lower(), s) if '-' not in s else s
-            s = s.replace('-', '_')
+            s = re.sub(r"(?<=[a-z0-9'])([A-Z])", lambda m: '_' + m.group(1).lower(), s).replace('-', '_')
         return s
     return name
 

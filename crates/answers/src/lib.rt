@@ -4,6 +4,7 @@
 use classify::Classified;
 use delivery::deliver;
 use flatten::Flattened;
+use inputs::{fail_at, is_gone};
 use messages::{complain, say, say_refusal, say_refused};
 use options::PASS;
 use own::Own;
@@ -14,6 +15,8 @@ use plan::{
 use records::Record;
 use refusals::{refuse, sum_up};
 use search::say_missing;
+use std::io::{Error, Result};
+use std::rt::Files;
 use text::part_of;
 use warnings::warn_all;
 
@@ -23,6 +26,31 @@ pub const REFUSED: u8 = 49;
 
 // Bad usage, or a file that cannot be read or written.
 pub const FAILED: u8 = 50;
+
+// The reader of an output went away: there is no answer.
+pub const GONE: u8 = 0;
+
+// The digit where standard output could not be written, with a message unless its reader went away.
+pub fn fail_output(error: Error) -> u8 {
+    if is_gone(error) {
+        return GONE;
+    }
+    fail_at(b"standard output", error);
+    FAILED
+}
+
+// The digit where words were written to standard output: it is of no account whether they all were, unless its reader went away.
+pub fn said(written: Result<()>) -> u8 {
+    match written {
+        Ok(()) => DONE,
+        Err(error) => {
+            if is_gone(error) {
+                return GONE;
+            }
+            DONE
+        }
+    }
+}
 
 // The name of macro `i`.
 fn name_at<'a>(bytes: &'a [u8], records: [Record; 4096], i: usize) -> &'a [u8] {
@@ -34,13 +62,10 @@ fn name_at<'a>(bytes: &'a [u8], records: [Record; 4096], i: usize) -> &'a [u8] {
 }
 
 // Pass, on the macros that are left.
-fn answer_pass(bytes: &[u8], records: [Record; 4096]) -> u8 {
+fn answer_pass(rt: &HostRuntime, bytes: &[u8], records: [Record; 4096]) -> u8 {
     let p = own::pass(bytes, records);
     match p {
-        pass::Answer::Yes => {
-            outputs::say(b"pass: yes\n");
-            DONE
-        }
+        pass::Answer::Yes => said(outputs::say(&mut rt.stdout(), b"pass: yes\n")),
         pass::Answer::Foreign => {
             say(b"arborstitch: pass: ");
             say_refused(1);
@@ -57,17 +82,16 @@ fn answer_pass(bytes: &[u8], records: [Record; 4096]) -> u8 {
 }
 
 // Look up of that name, on the macros that are left.
-fn answer_lookup(name: &[u8], bytes: &[u8], records: [Record; 4096]) -> u8 {
+fn answer_lookup(rt: &HostRuntime, name: &[u8], bytes: &[u8], records: [Record; 4096]) -> u8 {
     let form = own::look_up(bytes, records, name);
     if form.len() == 0 {
         complain(name, b"this macro is not defined");
         return REFUSED;
     }
-    if outputs::show_macro(libc::STDOUT_FILENO, form, macros::plain_name(name).len()) {
-        return DONE;
+    match outputs::show_macro(&mut rt.stdout(), form, macros::plain_name(name).len()) {
+        Ok(()) => DONE,
+        Err(error) => fail_output(error),
     }
-    inputs::fail_at(b"standard output");
-    FAILED
 }
 
 // The words of the flat text, where they are asked for.
@@ -92,7 +116,11 @@ fn note_counts(r: Flattened, c: Classified, plan: &mut [usize]) {
 
 fn answer_written(written: bool, r: Flattened, plan: &[usize]) -> u8 {
     if !written {
-        return FAILED;
+        return if get(plan, plan::GONE) == 0 {
+            FAILED
+        } else {
+            GONE
+        };
     }
     if get(plan, QUIET) == 0 {
         sum_up(r);
@@ -102,6 +130,7 @@ fn answer_written(written: bool, r: Flattened, plan: &[usize]) -> u8 {
 
 // Writes what is asked of a flat text, unless its words are refused.
 fn write_flat(
+    rt: &HostRuntime,
     r: Flattened,
     line: &[u8],
     rows: &[[u32; 5]],
@@ -124,7 +153,7 @@ fn write_flat(
     }
     note_counts(r, c, plan);
     let written = deliver(
-        line, rows, plan, flat, store, table, paths, map, &words, included, bytes, records,
+        rt, line, rows, plan, flat, store, table, paths, map, &words, included, bytes, records,
     );
     answer_written(written, r, plan)
 }
@@ -151,6 +180,7 @@ fn answer_refused(
 
 // Whether the warnings let the run go on; `included` gets where each file is included.
 fn pass_warnings(
+    files: &impl Files,
     r: Flattened,
     line: &[u8],
     rows: &[[u32; 5]],
@@ -163,6 +193,7 @@ fn pass_warnings(
 ) -> bool {
     let silent = get(plan, SILENT) != 0;
     let n = warn_all(
+        files,
         store,
         table,
         paths,
@@ -183,6 +214,7 @@ fn pass_warnings(
 
 // Writes what is asked of a flattening, or why it is refused; pass and look up ask nothing to be written.
 fn finish_with(
+    rt: &HostRuntime,
     r: Flattened,
     write: bool,
     line: &[u8],
@@ -201,14 +233,25 @@ fn finish_with(
         return answer_refused(r, plan, store, table, paths, starts);
     }
     let mut included = [0u32; 64];
-    if !pass_warnings(r, line, rows, plan, store, table, paths, map, &mut included) {
+    if !pass_warnings(
+        rt,
+        r,
+        line,
+        rows,
+        plan,
+        store,
+        table,
+        paths,
+        map,
+        &mut included,
+    ) {
         return REFUSED;
     }
     if !write {
         return DONE;
     }
     write_flat(
-        r, line, rows, plan, store, table, paths, text, map, &included, bytes, records,
+        rt, r, line, rows, plan, store, table, paths, text, map, &included, bytes, records,
     )
 }
 
@@ -221,6 +264,7 @@ pub struct Left {
 
 // The same, with as much of the tables as is filled in.
 pub fn finish(
+    rt: &HostRuntime,
     o: Own,
     write: bool,
     line: &[u8],
@@ -240,15 +284,21 @@ pub fn finish(
     let files = &table[0..n];
     let named = &paths[0..n];
     let digit = finish_with(
-        r, write, line, rows, plan, store, files, named, starts, text, map, bytes, records,
+        rt, r, write, line, rows, plan, store, files, named, starts, text, map, bytes, records,
     );
     Left { digit, records }
 }
 
 // Pass, or look up, on the macros that are left.
-pub fn answer_macros(command: usize, name: &[u8], bytes: &[u8], records: [Record; 4096]) -> u8 {
+pub fn answer_macros(
+    rt: &HostRuntime,
+    command: usize,
+    name: &[u8],
+    bytes: &[u8],
+    records: [Record; 4096],
+) -> u8 {
     if command == PASS {
-        return answer_pass(bytes, records);
+        return answer_pass(rt, bytes, records);
     }
-    answer_lookup(name, bytes, records)
+    answer_lookup(rt, name, bytes, records)
 }

@@ -6,6 +6,7 @@ use options::{
     STRICT, STRIP, TEXT, VERSION, find_byte, takes_value,
 };
 use plan::{add_row, count_if, get, output_path, output_slot, put, put_range, sum, to_u32, wide};
+use std::rt::Files;
 use text::{part_of, peek, same};
 use word_lists::{LIST_END, range_at, take_list};
 
@@ -187,6 +188,7 @@ fn take_setting(
 
 // The value of an option, or a file, which stands from `at` to `end` of `line`, in word `i`.
 fn take_value(
+    files: &impl Files,
     kind: usize,
     i: usize,
     at: usize,
@@ -200,7 +202,7 @@ fn take_value(
         if !take_row([plan::LIST, to_u32(at), to_u32(end), 0, 0], rows, plan) {
             return false;
         }
-        return take_list(i, at, end, line, words, plan);
+        return take_list(files, i, at, end, line, words, plan);
     }
     if (kind == FILE) | (kind == INCLUDED) | (kind == ANGLED) {
         return take_file(kind, at, end, line, rows, plan);
@@ -250,6 +252,7 @@ fn take_command(command: usize, plan: &mut [usize]) -> bool {
 
 // A word that is no option's value, from `at` to `end` of `line`.
 fn take_option(
+    files: &impl Files,
     i: usize,
     at: usize,
     end: usize,
@@ -275,7 +278,7 @@ fn take_option(
         return true;
     }
     if takes_value(kind) | (kind == FILE) {
-        return take_value(kind, i, sum(at, from), end, line, words, rows, plan);
+        return take_value(files, kind, i, sum(at, from), end, line, words, rows, plan);
     }
     take_flag(kind, part_of(line, at, end), plan)
 }
@@ -290,6 +293,7 @@ fn end_list(plan: &[usize]) -> bool {
 
 // Takes word `i`: the first may name a command; any may be the value of the option before it.
 pub fn take_word(
+    files: &impl Files,
     i: usize,
     line: &mut [u8],
     words: &mut [[u32; 2]],
@@ -309,10 +313,10 @@ pub fn take_word(
     let due = get(plan, plan::DUE);
     if due != FILE {
         put(plan, plan::DUE, FILE);
-        return take_value(due, i, at, end, line, words, rows, plan);
+        return take_value(files, due, i, at, end, line, words, rows, plan);
     }
     if get(plan, plan::ENDED) != 0 {
-        return take_value(FILE, i, at, end, line, words, rows, plan);
+        return take_value(files, FILE, i, at, end, line, words, rows, plan);
     }
-    take_option(i, at, end, line, words, rows, plan)
+    take_option(files, i, at, end, line, words, rows, plan)
 }

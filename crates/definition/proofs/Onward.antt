@@ -166,14 +166,14 @@ module _ (s : List ℕ) where
   formal_then formal.IllFormed go h g = tt
   formal_then formal.Short go h g = tt
 
-  formals_from : (n i : ℕ) → Free s i → ListFree (formals_from n s i)
+  formals_from_lem : (n i : ℕ) → Free s i → ListFree (formals_from n s i)
   unfolding ListFree formals_from
-  formals_from zero i u = tt
-  formals_from (suc n) i u = formal_then (formal_at s i) (formals_from n s) (formal_free i u) (formals_from n)
+  formals_from_lem zero i u = tt
+  formals_from_lem (suc n) i u = formal_then (formal_at s i) (formals_from n s) (formal_free i u) (formals_from_lem n)
 
   formals_free : (i : ℕ) → Free s i → ListFree (formals_at s i)
   unfolding formals_at
-  formals_free i u = formals_from (suc (length s - i)) i u
+  formals_free i u = formals_from_lem (suc (length s - i)) i u
 
   -- the shape of a head, behind which nothing bars
   pub shape_free : (h : Head) → (h.whole ≡ true → Free s h.next) → ListFree (shape_by s h)

@@ -5,6 +5,7 @@ use flatten::Flattened;
 use own::Own;
 use plan::{ADDED, BROKEN, ENTRY, FILES, LIMIT, SET, STARTS, get, put};
 use search::{Search, find_missing};
+use std::rt::Files;
 
 // Flattens with as much of the tables as is filled in.
 fn flatten_once(
@@ -33,6 +34,7 @@ fn flatten_once(
 
 // Seeks the file that a refused include asks for; slot ADDED says whether it was added, and slot BROKEN that it cannot be read.
 fn seek_refused(
+    files: &impl Files,
     r: Flattened,
     line: &[u8],
     rows: &[[u32; 5]],
@@ -45,7 +47,9 @@ fn seek_refused(
     if r.number != 9 {
         return;
     }
-    let s = find_missing(r.file, r.byte, line, rows, plan, store, table, paths);
+    let s = find_missing(
+        files, r.file, r.byte, line, rows, plan, store, table, paths,
+    );
     match s {
         Search::Added => put(plan, ADDED, 1),
         Search::Missing => {}
@@ -55,6 +59,7 @@ fn seek_refused(
 
 // Flattens again, where a file that the refused include asks for was found; slot ADDED says whether.
 fn flatten_again(
+    files: &impl Files,
     o: Own,
     line: &[u8],
     rows: &[[u32; 5]],
@@ -68,7 +73,7 @@ fn flatten_again(
     bytes: &mut [u8],
 ) -> Own {
     let r = o.answer;
-    seek_refused(r, line, rows, plan, store, table, paths);
+    seek_refused(files, r, line, rows, plan, store, table, paths);
     if get(plan, ADDED) == 0 {
         return o;
     }
@@ -77,6 +82,7 @@ fn flatten_again(
 
 // Flattens, and again for each included file that is found.
 pub fn flatten_found(
+    files: &impl Files,
     line: &[u8],
     rows: &[[u32; 5]],
     plan: &mut [usize],
@@ -92,7 +98,7 @@ pub fn flatten_found(
     let mut k: usize = 0;
     while k < 64 {
         o = flatten_again(
-            o, line, rows, plan, store, table, paths, starts, text, map, bytes,
+            files, o, line, rows, plan, store, table, paths, starts, text, map, bytes,
         );
         if get(plan, ADDED) == 0 {
             return o;

@@ -47,18 +47,18 @@ plain_shorter w e = omega (arith, ap length e, go w)
 -- ---- a macro
 
 module _ (w : List ℕ) {ms : List Macro} {b : List ℕ} {r : List (List ℕ)} {n : ℕ} {f : Found} (h : Holds ms b r n) (e : f ≡ find w ms) where
-  shown_by : (g : Found) → f ≡ g → shown w ms ≡ shown_by g ms
+  shown_by_lem : (g : Found) → f ≡ g → shown w ms ≡ shown_by g ms
   unfolding shown
-  shown_by g a = ap (λ (x : Found). shown_by x ms) (sym e ∙ a)
+  shown_by_lem g a = ap (λ (x : Found). shown_by x ms) (sym e ∙ a)
 
   pub shown_at : (i : ℕ) → f ≡ At i → {p : List ℕ} → p ≡ form_of (macro_at ms i) → p ≡ shown w ms
-  shown_at i a q = q ∙ sym (shown_by (At i) a)
+  shown_at i a q = q ∙ sym (shown_by_lem (At i) a)
 
   pub shown_past : (i : ℕ) → f ≡ At i → n ≤ i → {p : List ℕ} → p ≡ shown w ms
   shown_past i a l = absurd (omega (arith, found_below w h e i a))
 
   pub shown_missing : (i : ℕ) → f ≡ Missing i → {p : List ℕ} → p ≡ [] → p ≡ shown w ms
-  shown_missing i a q = q ∙ sym (shown_by (Missing i) a)
+  shown_missing i a q = q ∙ sym (shown_by_lem (Missing i) a)
 
 -- ---- a store
 

@@ -3,7 +3,12 @@
 
 ghost use Rattle.std.specs.Prelude.{◌≤◌};
 
-use libc::STDERR_FILENO;
+// The descriptors of standard input, standard output and standard error.
+pub const STDIN_FILENO: i32 = 0;
+
+pub const STDOUT_FILENO: i32 = 1;
+
+pub const STDERR_FILENO: i32 = 2;
 
 // The descriptor on which the wrapper `bin/arborstitch` listens: new files, each as `+PATH` on a line, then a digit.
 pub const WRAPPER: i32 = 3;

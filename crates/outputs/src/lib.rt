@@ -1,4 +1,4 @@
-// What the technician's command writes to an open descriptor: the flat text with or without marks, its map, its words, macros as
+// What the technician's command writes to an output that is open: the flat text with or without marks, its map, its words, macros as
 // definitions, a rule for make.
 #![tactic(auto)]
 
@@ -8,13 +8,13 @@ mod marks;
 mod rule;
 mod shown;
 
-use libc::STDOUT_FILENO;
 pub use listing::{write_map, write_words};
 pub use marks::write_marked;
 pub use rule::write_rule;
 pub use shown::{show_macro, write_defines};
+use std::io::{Result, Write};
 
-// Writes to standard output.
-pub fn say(w: &[u8]) {
-    io::write_all(STDOUT_FILENO, w);
+// Writes words as they are.
+pub fn say(to: &mut impl Write, w: &[u8]) -> Result<()> {
+    to.write_all(w)
 }

@@ -5,6 +5,7 @@ use crate::gathering::{flush, pour, pour_number};
 use lex::{NEWLINE, Token, in_file, token_at};
 use places::newlines_in;
 use plan::{path_at, sum};
+use std::io::{Result, Write};
 use text::{holds_in, part_of};
 
 // The end of a token that stands at `at`, past it in any case.
@@ -49,12 +50,18 @@ fn mark_name<'a>(store: &'a [u8], table: &[[u32; 5]], paths: &[[u32; 3]], k: usi
 }
 
 // A mark: the next line is that line of the file of that name.
-fn pour_mark(fd: i32, out: &mut [u8], n: usize, name: &[u8], number: usize) -> usize {
-    let a = pour(fd, out, n, b"`line ");
-    let b = pour_number(fd, out, a, number);
-    let c = pour(fd, out, b, b" \"");
-    let d = pour(fd, out, c, name);
-    pour(fd, out, d, b"\" 0\n")
+fn pour_mark(
+    to: &mut impl Write,
+    out: &mut [u8],
+    n: usize,
+    name: &[u8],
+    number: usize,
+) -> Result<usize> {
+    let a = pour(to, out, n, b"`line ")?;
+    let b = pour_number(to, out, a, number)?;
+    let c = pour(to, out, b, b" \"")?;
+    let d = pour(to, out, c, name)?;
+    pour(to, out, d, b"\" 0\n")
 }
 
 fn entry_at(map: &[u32], i: usize) -> usize {
@@ -63,7 +70,7 @@ fn entry_at(map: &[u32], i: usize) -> usize {
 
 // The mark of the line with the map's entry `place`, unless it follows the entry `before`.
 fn pour_place(
-    fd: i32,
+    to: &mut impl Write,
     out: &mut [u8],
     n: usize,
     store: &[u8],
@@ -71,23 +78,23 @@ fn pour_place(
     paths: &[[u32; 3]],
     place: usize,
     before: usize,
-) -> usize {
+) -> Result<usize> {
     if place == before {
-        return n;
+        return Ok(n);
     }
     let name = mark_name(store, table, paths, place / 131072);
-    pour_mark(fd, out, n, name, place % 131072)
+    pour_mark(to, out, n, name, place % 131072)
 }
 
 // The flat text with its marks. `place` is the map's entry that the next line has if nothing marks it.
 pub fn write_marked(
-    fd: i32,
+    to: &mut impl Write,
     flat: &[u8],
     store: &[u8],
     table: &[[u32; 5]],
     paths: &[[u32; 3]],
     map: &[u32],
-) -> bool {
+) -> Result<()> {
     let mut out = [0u8; 65536];
     let mut n = 0;
     let mut line = 0;
@@ -96,13 +103,13 @@ pub fn write_marked(
     while at < flat.len() {
         let end = next_line(flat, at);
         let here = entry_at(map, line);
-        n = pour_place(fd, &mut out, n, store, table, paths, here, place);
+        n = pour_place(to, &mut out, n, store, table, paths, here, place)?;
         let w = part_of(flat, at, end);
-        n = pour(fd, &mut out, n, w);
+        n = pour(to, &mut out, n, w)?;
         let k = newlines_in(w);
         line = sum(line, k);
         place = sum(here, k);
         at = end;
     }
-    flush(fd, &out, n)
+    flush(to, &out, n)
 }

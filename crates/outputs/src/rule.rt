@@ -1,6 +1,7 @@
 // The rule for make that says from which files the text is made.
 use crate::gathering::{flush, pour};
 use plan::{FOUND, LIST, ROOT, file_kind, kind_at, path_at, word_at};
+use std::io::{Result, Write};
 
 // What stands before a byte of a path in a rule; 0 for nothing.
 fn escape_of(b: u8) -> u8 {
@@ -12,33 +13,39 @@ fn escape_of(b: u8) -> u8 {
     }
 }
 
-fn pour_byte(fd: i32, out: &mut [u8], n: usize, b: u8) -> usize {
+fn pour_byte(to: &mut impl Write, out: &mut [u8], n: usize, b: u8) -> Result<usize> {
     let e = escape_of(b);
     let pair = [e, b];
     if e == 0 {
-        return pour(fd, out, n, &pair[1..2]);
+        return pour(to, out, n, &pair[1..2]);
     }
-    pour(fd, out, n, &pair[0..2])
+    pour(to, out, n, &pair[0..2])
 }
 
 // A path as a rule has it.
-fn pour_path(fd: i32, out: &mut [u8], n: usize, path: &[u8]) -> usize {
+fn pour_path(to: &mut impl Write, out: &mut [u8], n: usize, path: &[u8]) -> Result<usize> {
     let mut k = n;
     let mut i = 0;
     while i < path.len() {
-        k = pour_byte(fd, out, k, path[i]);
+        k = pour_byte(to, out, k, path[i])?;
         i += 1;
     }
-    k
+    Ok(k)
 }
 
 // A file that the text is made from, if it is used.
-fn pour_used(fd: i32, out: &mut [u8], n: usize, path: &[u8], used: bool) -> usize {
+fn pour_used(
+    to: &mut impl Write,
+    out: &mut [u8],
+    n: usize,
+    path: &[u8],
+    used: bool,
+) -> Result<usize> {
     if !used {
-        return n;
+        return Ok(n);
     }
-    let a = pour(fd, out, n, b" \\\n ");
-    pour_path(fd, out, a, path)
+    let a = pour(to, out, n, b" \\\n ")?;
+    pour_path(to, out, a, path)
 }
 
 // Whether file `k` is a file on disk that the text is made from.
@@ -58,48 +65,48 @@ fn is_used(paths: &[[u32; 3]], included: &[u32], k: usize) -> bool {
 }
 
 fn pour_files(
-    fd: i32,
+    to: &mut impl Write,
     out: &mut [u8],
     n: usize,
     store: &[u8],
     paths: &[[u32; 3]],
     included: &[u32],
-) -> usize {
+) -> Result<usize> {
     let mut a = n;
     let mut k = 0;
     while k < paths.len() {
         a = pour_used(
-            fd,
+            to,
             out,
             a,
             path_at(store, paths, k),
             is_used(paths, included, k),
-        );
+        )?;
         k += 1;
     }
-    a
+    Ok(a)
 }
 
 fn pour_lists(
-    fd: i32,
+    to: &mut impl Write,
     out: &mut [u8],
     n: usize,
     line: &[u8],
     rows: &[[u32; 5]],
     m: usize,
-) -> usize {
+) -> Result<usize> {
     let mut a = n;
     let mut i = 0;
     while i < m {
-        a = pour_used(fd, out, a, word_at(line, rows, i), kind_at(rows, i) == LIST);
+        a = pour_used(to, out, a, word_at(line, rows, i), kind_at(rows, i) == LIST)?;
         i += 1;
     }
-    a
+    Ok(a)
 }
 
 // The rule for `target`: it needs the files that are used, and the lists among the first `m` rows.
 pub fn write_rule(
-    fd: i32,
+    to: &mut impl Write,
     target: &[u8],
     store: &[u8],
     paths: &[[u32; 3]],
@@ -107,12 +114,12 @@ pub fn write_rule(
     line: &[u8],
     rows: &[[u32; 5]],
     m: usize,
-) -> bool {
+) -> Result<()> {
     let mut out = [0u8; 65536];
-    let a = pour_path(fd, &mut out, 0, target);
-    let b = pour(fd, &mut out, a, b":");
-    let c = pour_files(fd, &mut out, b, store, paths, included);
-    let d = pour_lists(fd, &mut out, c, line, rows, m);
-    let e = pour(fd, &mut out, d, b"\n");
-    flush(fd, &out, e)
+    let a = pour_path(to, &mut out, 0, target)?;
+    let b = pour(to, &mut out, a, b":")?;
+    let c = pour_files(to, &mut out, b, store, paths, included)?;
+    let d = pour_lists(to, &mut out, c, line, rows, m)?;
+    let e = pour(to, &mut out, d, b"\n")?;
+    flush(to, &out, e)
 }

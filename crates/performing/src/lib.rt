@@ -1,7 +1,7 @@
 // What the command does with the files that it read. Each answer is a digit.
 #![tactic(auto)]
 
-use answers::{DONE, FAILED, Left, REFUSED, answer_macros, finish};
+use answers::{DONE, Left, REFUSED, answer_macros, fail_output, finish};
 use flattening::flatten_found;
 use messages::say_refusal;
 use options::{FLATTEN, PASS};
@@ -10,6 +10,7 @@ use refusals::body_at;
 
 // Flattens into a text and a map of its own, and finishes.
 fn flatten_files(
+    rt: &HostRuntime,
     write: bool,
     line: &[u8],
     rows: &[[u32; 5]],
@@ -23,28 +24,35 @@ fn flatten_files(
     let mut text = [0u8; 2097152];
     let mut map = [0u32; 131072];
     let o = flatten_found(
-        line, rows, plan, store, table, paths, starts, &mut text, &mut map, bytes,
+        rt, line, rows, plan, store, table, paths, starts, &mut text, &mut map, bytes,
     );
     finish(
-        o, write, line, rows, plan, store, table, paths, starts, &text, &map, bytes,
+        rt, o, write, line, rows, plan, store, table, paths, starts, &text, &map, bytes,
     )
 }
 
 // Pass or look up, where the flattening was not refused. `answer_macros` has two calls that differ, so it keeps a frame of its own.
-fn answer_left(left: Left, command: usize, name: &[u8], bytes: &[u8]) -> u8 {
+fn answer_left(
+    rt: &HostRuntime,
+    left: Left,
+    command: usize,
+    name: &[u8],
+    bytes: &[u8],
+) -> u8 {
     if left.digit != DONE {
         return left.digit;
     }
     let records = left.records;
     if command == PASS {
-        return answer_macros(PASS, b"", bytes, records);
+        return answer_macros(rt, PASS, b"", bytes, records);
     }
-    answer_macros(command, name, bytes, records)
+    answer_macros(rt, command, name, bytes, records)
 }
 
 // Flattens, and answers what is asked. `flatten_files` has two calls that differ too, so that its 4 MiB are free before pass takes
 // 5.
 pub fn perform(
+    rt: &HostRuntime,
     line: &[u8],
     rows: &[[u32; 5]],
     plan: &mut [usize],
@@ -56,15 +64,25 @@ pub fn perform(
 ) -> u8 {
     let command = get(plan, COMMAND);
     if command == FLATTEN {
-        let flat = flatten_files(true, line, rows, plan, store, table, paths, starts, bytes);
+        let flat = flatten_files(
+            rt, true, line, rows, plan, store, table, paths, starts, bytes,
+        );
         return flat.digit;
     }
-    let left = flatten_files(false, line, rows, plan, store, table, paths, starts, bytes);
-    answer_left(left, command, range_at(line, plan, NAME), bytes)
+    let left = flatten_files(
+        rt, false, line, rows, plan, store, table, paths, starts, bytes,
+    );
+    answer_left(rt, left, command, range_at(line, plan, NAME), bytes)
 }
 
 // The words of the one file, whatever its size.
-pub fn list_words(plan: &[usize], store: &[u8], table: &[[u32; 5]], paths: &[[u32; 3]]) -> u8 {
+pub fn list_words(
+    rt: &HostRuntime,
+    plan: &[usize],
+    store: &[u8],
+    table: &[[u32; 5]],
+    paths: &[[u32; 3]],
+) -> u8 {
     let mut words = [[0u32; 3]; 131072];
     let k = get(plan, ENTRY);
     let body = body_at(store, table, k);
@@ -74,9 +92,8 @@ pub fn list_words(plan: &[usize], store: &[u8], table: &[[u32; 5]], paths: &[[u3
         say_refusal(path, body, c.number, c.line, c.byte);
         return REFUSED;
     }
-    if outputs::write_words(libc::STDOUT_FILENO, body, &words, c.words) {
-        return DONE;
+    match outputs::write_words(&mut rt.stdout(), body, &words, c.words) {
+        Ok(()) => DONE,
+        Err(error) => fail_output(error),
     }
-    inputs::fail_at(b"standard output");
-    FAILED
 }

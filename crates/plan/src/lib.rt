@@ -88,6 +88,9 @@ pub const STARTS: usize = 29;
 
 pub const ENTRY: usize = 30;
 
+// the reader of an output went away
+pub const GONE: usize = 31;
+
 // For each output how it is written, two slots: its way, and the number in the name of its new file.
 pub const WAYS: usize = 32;
 

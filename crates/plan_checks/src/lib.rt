@@ -2,14 +2,15 @@
 #![tactic(auto)]
 
 use identity::{Identity, of_descriptor, of_path};
-use libc::STDIN_FILENO;
-use messages::complain;
+use messages::{STDIN_FILENO, complain};
 use options::{CLASSIFY, FILE, FLATTEN};
 use output_files::{is_standard, names_one, overwrites};
 use plan::{
     COMMAND, DEFINES, DUE, INPUT, LINES, LIST, LISTED, MACRO, MAP, ROOTS, ROWS, RULE, TEXT, get,
     kind_at, output_path, word_at,
 };
+use std::alloc::Alloc;
+use std::rt::Files;
 
 fn bad(what: &[u8], why: &[u8]) -> bool {
     complain(what, why);
@@ -82,24 +83,24 @@ fn check_outputs(line: &[u8], plan: &[usize]) -> bool {
 }
 
 // Whether outputs `a` and `b` are both given, and go to one file.
-fn are_one(line: &[u8], plan: &[usize], a: usize, b: usize) -> bool {
+fn are_one(rt: &(impl Files + Alloc), line: &[u8], plan: &[usize], a: usize, b: usize) -> bool {
     if !is_given(line, plan, a) {
         return false;
     }
     if (b != TEXT) & !is_given(line, plan, b) {
         return false;
     }
-    names_one(output_path(line, plan, a), output_path(line, plan, b))
+    names_one(rt, output_path(line, plan, a), output_path(line, plan, b))
 }
 
 // Whether no two outputs go to one file. The text goes to standard output where it is not given.
-fn check_apart(line: &[u8], plan: &[usize]) -> bool {
-    let map = are_one(line, plan, MAP, LISTED)
-        | are_one(line, plan, MAP, RULE)
-        | are_one(line, plan, MAP, TEXT);
-    let rest = are_one(line, plan, LISTED, RULE)
-        | are_one(line, plan, LISTED, TEXT)
-        | are_one(line, plan, RULE, TEXT);
+fn check_apart(rt: &(impl Files + Alloc), line: &[u8], plan: &[usize]) -> bool {
+    let map = are_one(rt, line, plan, MAP, LISTED)
+        | are_one(rt, line, plan, MAP, RULE)
+        | are_one(rt, line, plan, MAP, TEXT);
+    let rest = are_one(rt, line, plan, LISTED, RULE)
+        | are_one(rt, line, plan, LISTED, TEXT)
+        | are_one(rt, line, plan, RULE, TEXT);
     if map | rest {
         return bad(
             b"-o, -m, -w and -MD",
@@ -110,12 +111,12 @@ fn check_apart(line: &[u8], plan: &[usize]) -> bool {
 }
 
 // Whether output `k` would overwrite the file `read`.
-fn clashes_at(line: &[u8], plan: &[usize], k: usize, read: Identity) -> bool {
+fn clashes_at(files: &impl Files, line: &[u8], plan: &[usize], k: usize, read: Identity) -> bool {
     let path = output_path(line, plan, k);
     if (k != TEXT) & (path.len() == 0) {
         return false;
     }
-    if !overwrites(path, read) {
+    if !overwrites(files, path, read) {
         return false;
     }
     if is_standard(path) {
@@ -125,31 +126,31 @@ fn clashes_at(line: &[u8], plan: &[usize], k: usize, read: Identity) -> bool {
 }
 
 // Whether an output would overwrite the file `read`, with a message.
-pub fn clashes(line: &[u8], plan: &[usize], read: Identity) -> bool {
-    clashes_at(line, plan, TEXT, read)
-        | clashes_at(line, plan, MAP, read)
-        | clashes_at(line, plan, LISTED, read)
-        | clashes_at(line, plan, RULE, read)
+pub fn clashes(files: &impl Files, line: &[u8], plan: &[usize], read: Identity) -> bool {
+    clashes_at(files, line, plan, TEXT, read)
+        | clashes_at(files, line, plan, MAP, read)
+        | clashes_at(files, line, plan, LISTED, read)
+        | clashes_at(files, line, plan, RULE, read)
 }
 
 // The file of row `i`: none for a folder or a macro.
-fn file_at(line: &[u8], rows: &[[u32; 5]], i: usize) -> Identity {
+fn file_at(files: &impl Files, line: &[u8], rows: &[[u32; 5]], i: usize) -> Identity {
     let kind = kind_at(rows, i);
     if kind == INPUT {
-        return of_descriptor(STDIN_FILENO);
+        return of_descriptor(files, STDIN_FILENO);
     }
     if (kind <= plan::ANGLED) | (kind == LIST) {
-        return of_path(word_at(line, rows, i));
+        return of_path(files, word_at(line, rows, i));
     }
-    of_path(b"")
+    of_path(files, b"")
 }
 
 // Whether no output would overwrite a file that is read.
-fn check_read(line: &[u8], rows: &[[u32; 5]], plan: &[usize]) -> bool {
+fn check_read(files: &impl Files, line: &[u8], rows: &[[u32; 5]], plan: &[usize]) -> bool {
     let n = get(plan, ROWS);
     let mut i = 0;
     while i < n {
-        if clashes(line, plan, file_at(line, rows, i)) {
+        if clashes(files, line, plan, file_at(files, line, rows, i)) {
             return false;
         }
         i += 1;
@@ -158,7 +159,12 @@ fn check_read(line: &[u8], rows: &[[u32; 5]], plan: &[usize]) -> bool {
 }
 
 // Whether the plan can be carried out; with a message where it cannot.
-pub fn check_plan(line: &[u8], rows: &[[u32; 5]], plan: &[usize]) -> bool {
+pub fn check_plan(
+    rt: &(impl Files + Alloc),
+    line: &[u8],
+    rows: &[[u32; 5]],
+    plan: &[usize],
+) -> bool {
     if get(plan, DUE) != FILE {
         return bad(b"the last option", b"its value is missing");
     }
@@ -174,5 +180,5 @@ pub fn check_plan(line: &[u8], rows: &[[u32; 5]], plan: &[usize]) -> bool {
             b"arborstitch -h tells how",
         );
     }
-    check_outputs(line, plan) && check_apart(line, plan) && check_read(line, rows, plan)
+    check_outputs(line, plan) && check_apart(rt, line, plan) && check_read(rt, line, rows, plan)
 }

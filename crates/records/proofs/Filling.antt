@@ -174,9 +174,9 @@ module _ (h : HandOver) (ys : List Record) (t m b t' m' b' : List ℕ) (r : Kept
   abbrev left : List Record
   left = filled (cleared ys r.clears) r.table r.table.length
 
-  untaken : is_sound h inner ≡ false → left ≡ ys
+  not_taken_lem : is_sound h inner ≡ false → left ≡ ys
   unfolding flattened filled cleared
-  untaken e =
+  not_taken_lem e =
       let z : flattened h inner ≡ not_taken = rw e refl in
       let w : a ≡ answer_of not_taken = k.flattens.leaves.answer ∙ ap answer_of z in
       let c : r.clears ≡ 0 = k.clears_are ∙ ap (λ (y : Flattened). cond (eqb y.number 1) 0 n) w in
@@ -239,7 +239,7 @@ module _ (h : HandOver) (ys : List Record) (t m b t' m' b' : List ℕ) (r : Kept
   left_flattens =
       record {
         leaves = subst (λ (o : Outcome). Leaves o t t' m m' a) same_outcome k.flattens.leaves;
-        untouched = λ u. (ap rows_of (untaken (same_sound ∙ u)), (k.flattens.untouched (same_sound ∙ u)).1);
+        untouched = λ u. (ap rows_of (not_taken_lem (same_sound ∙ u)), (k.flattens.untouched (same_sound ∙ u)).1);
         macros_are = λ u. subst (λ (o : Outcome). HoldsMacros o (lent t' m' (rows_of left) b')) same_outcome (left_holds (same_sound ∙ u));
       }
 

@@ -9,6 +9,7 @@ use messages::complain;
 use plan::{CLASH, FILES, FOLDER, ROWS, STORED, append, get, kind_at, put, sum, word_at};
 use plan_checks::clashes;
 use sources::read_found;
+use std::rt::Files;
 use text::{part_of, peek};
 
 // What came of a search: the file is added; there is none; or a message was written.
@@ -80,13 +81,14 @@ fn repeat(store: &mut [u8], at: usize, end: usize, to: usize) -> usize {
 }
 
 // Whether the path that stands in the store from `at` to `end` is that of a file.
-fn is_file(store: &[u8], at: usize, end: usize) -> bool {
-    let i = of_path(part_of(store, at, end));
+fn is_file(files: &impl Files, store: &[u8], at: usize, end: usize) -> bool {
+    let i = of_path(files, part_of(store, at, end));
     i.found & !is_folder(i)
 }
 
 // Adds the file whose path stands in the store from `at` to `end`, unless it is an output.
 fn add_found(
+    files: &impl Files,
     w: Wanted,
     at: usize,
     end: usize,
@@ -97,11 +99,11 @@ fn add_found(
     table: &mut [[u32; 5]],
     paths: &mut [[u32; 3]],
 ) -> Search {
-    if clashes(line, plan, of_path(part_of(store, at, end))) {
+    if clashes(files, line, plan, of_path(files, part_of(store, at, end))) {
         put(plan, CLASH, 1);
         return Search::Failed;
     }
-    if read_found(at, end, cut, w.form, plan, store, table, paths) {
+    if read_found(files, at, end, cut, w.form, plan, store, table, paths) {
         Search::Added
     } else {
         Search::Failed
@@ -121,6 +123,7 @@ fn put_slash(store: &mut [u8], at: usize, dir: &[u8]) -> usize {
 
 // Seeks the file in the folder `dir`, the current one where that is empty.
 fn seek_in(
+    files: &impl Files,
     w: Wanted,
     dir: &[u8],
     line: &[u8],
@@ -133,10 +136,11 @@ fn seek_in(
     let a = append(store, at, dir);
     let b = put_slash(store, a, dir);
     let end = repeat(store, w.at, w.end, b);
-    if !is_file(store, at, end) {
+    if !is_file(files, store, at, end) {
         return Search::Missing;
     }
     add_found(
+        files,
         w,
         at,
         end,
@@ -151,6 +155,7 @@ fn seek_in(
 
 // Seeks the file in the current folder, for `"n"` alone.
 fn seek_here(
+    files: &impl Files,
     w: Wanted,
     line: &[u8],
     plan: &mut [usize],
@@ -161,11 +166,12 @@ fn seek_here(
     if w.form != 0 {
         return Search::Missing;
     }
-    seek_in(w, b"", line, plan, store, table, paths)
+    seek_in(files, w, b"", line, plan, store, table, paths)
 }
 
 // Seeks the file in the folder of row `i`, if it is one, unless its name is a whole path.
 fn seek_row(
+    files: &impl Files,
     i: usize,
     w: Wanted,
     line: &[u8],
@@ -181,11 +187,12 @@ fn seek_row(
     if peek(store, w.at) == 47 {
         return Search::Missing;
     }
-    seek_in(w, word_at(line, rows, i), line, plan, store, table, paths)
+    seek_in(files, w, word_at(line, rows, i), line, plan, store, table, paths)
 }
 
 // Seeks the file in the folders of -I, in their order.
 fn seek_folders(
+    files: &impl Files,
     w: Wanted,
     line: &[u8],
     rows: &[[u32; 5]],
@@ -197,7 +204,7 @@ fn seek_folders(
     let n = get(plan, ROWS);
     let mut i = 0;
     while i < n {
-        let s = seek_row(i, w, line, rows, plan, store, table, paths);
+        let s = seek_row(files, i, w, line, rows, plan, store, table, paths);
         match s {
             Search::Missing => {
                 i += 1;
@@ -226,6 +233,7 @@ fn is_sought(w: Wanted, store: &[u8], table: &[[u32; 5]]) -> bool {
 
 // Seeks the file that the include at `byte` of file `file` asks for: for `"n"` in the current folder first.
 pub fn find_missing(
+    files: &impl Files,
     file: usize,
     byte: usize,
     line: &[u8],
@@ -243,9 +251,9 @@ pub fn find_missing(
     if !is_sought(w, store, &table[0..n]) {
         return Search::Missing;
     }
-    let s = seek_here(w, line, plan, store, table, paths);
+    let s = seek_here(files, w, line, plan, store, table, paths);
     match s {
-        Search::Missing => seek_folders(w, line, rows, plan, store, table, paths),
+        Search::Missing => seek_folders(files, w, line, rows, plan, store, table, paths),
         Search::Added => Search::Added,
         Search::Failed => Search::Failed,
     }

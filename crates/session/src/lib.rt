@@ -1,7 +1,7 @@
 // The command from its arguments to its answer: help, or the plan checked and carried out.
 #![tactic(auto)]
 
-use answers::{DONE, FAILED};
+use answers::{DONE, FAILED, GONE, said};
 use command_line::read_words;
 use messages::{WRAPPER, complain};
 use options::{CLASSIFY, SHOW_HELP, SHOW_VERSION};
@@ -12,6 +12,7 @@ use sources::{make_entry, read_all};
 
 // Reads the files and does what is asked with them.
 fn run(
+    rt: &HostRuntime,
     line: &[u8],
     rows: &[[u32; 5]],
     plan: &mut [usize],
@@ -21,17 +22,18 @@ fn run(
     starts: &mut [[u32; 2]],
     bytes: &mut [u8],
 ) -> u8 {
-    if !read_all(line, rows, plan, store, table, paths, starts) {
+    if !read_all(rt, line, rows, plan, store, table, paths, starts) {
         return FAILED;
     }
     if get(plan, COMMAND) == CLASSIFY {
-        return list_words(plan, store, table, paths);
+        return list_words(rt, plan, store, table, paths);
     }
-    perform(line, rows, plan, store, table, paths, starts, bytes)
+    perform(rt, line, rows, plan, store, table, paths, starts, bytes)
 }
 
 // Carries out a plan: one that cannot be carried out touches nothing; a run that does not succeed leaves no outputs.
 fn carry_out(
+    rt: &HostRuntime,
     line: &[u8],
     rows: &[[u32; 5]],
     plan: &mut [usize],
@@ -41,21 +43,22 @@ fn carry_out(
     starts: &mut [[u32; 2]],
     bytes: &mut [u8],
 ) -> u8 {
-    if !check_plan(line, rows, plan) {
+    if !check_plan(rt, line, rows, plan) {
         return FAILED;
     }
     if !make_entry(line, rows, plan, store, table, paths) {
         return FAILED;
     }
-    let digit = run(line, rows, plan, store, table, paths, starts, bytes);
-    if (digit != DONE) & (get(plan, CLASH) == 0) {
-        delivery::set_all_aside(line, plan);
+    let digit = run(rt, line, rows, plan, store, table, paths, starts, bytes);
+    if (digit != DONE) & (digit != GONE) & (get(plan, CLASH) == 0) {
+        delivery::set_all_aside(rt, line, plan);
     }
     digit
 }
 
 // Carries out a plan with tables of its own.
 fn answer_plan(
+    rt: &HostRuntime,
     line: &[u8],
     rows: &[[u32; 5]],
     plan: &mut [usize],
@@ -66,6 +69,7 @@ fn answer_plan(
     let mut paths = [[0u32; 3]; 64];
     let mut starts = [[0u32; 2]; 257];
     carry_out(
+        rt,
         line,
         rows,
         plan,
@@ -79,6 +83,7 @@ fn answer_plan(
 
 // Reads the command line and does what it asks.
 pub fn answer(
+    rt: &HostRuntime,
     line: &mut [u8],
     words: &mut [[u32; 2]],
     rows: &mut [[u32; 5]],
@@ -86,18 +91,16 @@ pub fn answer(
     store: &mut [u8],
     bytes: &mut [u8],
 ) -> u8 {
-    if !read_words(line, words, rows, plan) {
+    if !read_words(rt, line, words, rows, plan) {
         return FAILED;
     }
     if get(plan, COMMAND) == SHOW_HELP {
-        help::print_help();
-        return DONE;
+        return said(help::print_help(&mut rt.stdout()));
     }
     if get(plan, COMMAND) == SHOW_VERSION {
-        help::print_version();
-        return DONE;
+        return said(help::print_version(&mut rt.stdout()));
     }
-    let heard = identity::of_descriptor(WRAPPER);
+    let heard = identity::of_descriptor(rt, WRAPPER);
     if !heard.found {
         complain(
             b"run bin/arborstitch",
@@ -105,5 +108,5 @@ pub fn answer(
         );
         return FAILED;
     }
-    answer_plan(line, rows, plan, store, bytes)
+    answer_plan(rt, line, rows, plan, store, bytes)
 }

@@ -1,11 +1,12 @@
 // Files and start macros added: bytes into the store, ranges into the tables.
 use inputs::{Got, fail_at, open_input, read_open};
-use libc::STDIN_FILENO;
 use messages::complain;
 use plan::{
     ANGLED, ENTRY, FILES, INPUT, ROOT, STARTS, STORED, append, count_up, get, less, put, second_at,
     sum, to_u32, word_at,
 };
+use std::io::{Input, Read};
+use std::rt::Files;
 use text::{begins_at, part_of, peek};
 
 fn complain_full(path: &[u8]) -> bool {
@@ -69,8 +70,8 @@ pub fn enter(
 }
 
 // Reads an open file, whose path stands in the store from `at` to `end`, into the store behind it, and enters it.
-pub fn read_in(
-    fd: i32,
+pub fn read_in<F: Read + Drop>(
+    file: F,
     at: usize,
     end: usize,
     cut: usize,
@@ -85,15 +86,15 @@ pub fn read_in(
     if most < end {
         return complain_full(part_of(store, at, end));
     }
-    let got = read_open(fd, &mut store[end..most]);
+    let got = read_open(file, &mut store[end..most]);
     match got {
         Got::Whole(size) => {
             enter(at, end, size, cut, kind, form, plan, table, paths);
             true
         }
         Got::Full => complain_full(part_of(store, at, end)),
-        Got::Unread => {
-            fail_at(part_of(store, at, end));
+        Got::Unread(error) => {
+            fail_at(part_of(store, at, end), error);
             false
         }
     }
@@ -109,6 +110,7 @@ fn has_place(path: &[u8], plan: &[usize], table: &[[u32; 5]]) -> bool {
 
 // Reads the file whose path stands in the store from `at` to `end` and whose name is the path but for its first `cut` bytes.
 pub fn read_found(
+    files: &impl Files,
     at: usize,
     end: usize,
     cut: usize,
@@ -121,22 +123,21 @@ pub fn read_found(
     if !has_place(part_of(store, at, end), plan, table) {
         return false;
     }
-    let fd = open_input(part_of(store, at, end));
-    if fd < 0 {
-        return false;
+    match open_input(files, part_of(store, at, end)) {
+        Some(file) => read_in(
+            file,
+            at,
+            end,
+            cut,
+            plan::FOUND,
+            form,
+            plan,
+            store,
+            table,
+            paths,
+        ),
+        None => false,
     }
-    read_in(
-        fd,
-        at,
-        end,
-        cut,
-        plan::FOUND,
-        form,
-        plan,
-        store,
-        table,
-        paths,
-    )
 }
 
 pub fn is_root(kind: u32) -> bool {
@@ -152,14 +153,6 @@ fn note_root(kind: u32, plan: &mut [usize]) {
 
 fn form_of(kind: u32) -> u32 {
     if kind == ANGLED { 1 } else { 0 }
-}
-
-// Opens the file of that path, or standard input.
-fn open_source(kind: u32, path: &[u8]) -> i32 {
-    if kind == INPUT {
-        return STDIN_FILENO;
-    }
-    open_input(path)
 }
 
 // Puts the path of a file into the store from `at` on; where it ends.
@@ -183,6 +176,7 @@ fn cut_of(i: usize, kind: u32, line: &[u8], rows: &[[u32; 5]]) -> usize {
 
 // Adds the file of row `i`, which is of that kind. A root is the root entry where the command makes none.
 pub fn add_file(
+    rt: &(impl Files + Input),
     i: usize,
     kind: u32,
     line: &[u8],
@@ -198,14 +192,30 @@ pub fn add_file(
         return false;
     }
     note_root(kind, plan);
-    let fd = open_source(kind, path);
-    if fd < 0 {
-        return false;
-    }
-    let end = put_path(kind, path, store, at);
     let cut = cut_of(i, kind, line, rows);
     let form = form_of(kind);
-    read_in(fd, at, end, cut, kind, form, plan, store, table, paths)
+    if kind == INPUT {
+        let end = put_path(kind, path, store, at);
+        return read_in(
+            rt.reader(),
+            at,
+            end,
+            cut,
+            kind,
+            form,
+            plan,
+            store,
+            table,
+            paths,
+        );
+    }
+    match open_input(rt, path) {
+        Some(file) => {
+            let end = put_path(kind, path, store, at);
+            read_in(file, at, end, cut, kind, form, plan, store, table, paths)
+        }
+        None => false,
+    }
 }
 
 // Adds a start macro.

@@ -10,10 +10,13 @@ use adding::{add_file, add_start, is_root};
 pub use making::make_entry;
 use messages::complain;
 use plan::{FILES, FOLDER, LIST, MACRO, MADE, ROWS, file_kind, get, has_value, kind_at, path_at};
+use std::io::Input;
+use std::rt::Files;
 use text::same;
 
 // Reads what row `i` names.
 fn read_row(
+    rt: &(impl Files + Input),
     i: usize,
     line: &[u8],
     rows: &[[u32; 5]],
@@ -33,7 +36,7 @@ fn read_row(
     if (kind == FOLDER) | (kind == LIST) {
         return true;
     }
-    add_file(i, kind, line, rows, plan, store, table, paths)
+    add_file(rt, i, kind, line, rows, plan, store, table, paths)
 }
 
 // Whether entry `k`, where it is a root, is the first of its name: the made entry includes roots by name.
@@ -77,6 +80,7 @@ fn check_names(n: usize, store: &[u8], table: &[[u32; 5]], paths: &[[u32; 3]]) -
 
 // Reads all files and start macros; a message is written where that fails.
 pub fn read_all(
+    rt: &(impl Files + Input),
     line: &[u8],
     rows: &[[u32; 5]],
     plan: &mut [usize],
@@ -88,7 +92,7 @@ pub fn read_all(
     let n = get(plan, ROWS);
     let mut i = 0;
     while i < n {
-        if !read_row(i, line, rows, plan, store, table, paths, starts) {
+        if !read_row(rt, i, line, rows, plan, store, table, paths, starts) {
             return false;
         }
         i += 1;

@@ -4,6 +4,7 @@ use identity::{is_same, of_path};
 use noting::includes::place_at;
 use noting::tallies::count_warning;
 use plan::{ANGLED, INCLUDED, INPUT, ROOT, file_kind, path_at, wide};
+use std::rt::Files;
 
 fn warn_file(store: &[u8], paths: &[[u32; 3]], included: &[u32], k: usize, tallies: &mut [usize]) {
     let kind = file_kind(paths, k);
@@ -27,8 +28,8 @@ pub fn warn_given(store: &[u8], paths: &[[u32; 3]], included: &[u32], tallies: &
 }
 
 // Whether two paths lead to one file.
-fn is_same_file(a: &[u8], b: &[u8]) -> bool {
-    is_same(of_path(a), of_path(b))
+fn is_same_file(files: &impl Files, a: &[u8], b: &[u8]) -> bool {
+    is_same(of_path(files, a), of_path(files, b))
 }
 
 fn is_root(paths: &[[u32; 3]], k: usize) -> bool {
@@ -37,7 +38,14 @@ fn is_root(paths: &[[u32; 3]], k: usize) -> bool {
 }
 
 // Where entry `k` is included as the file that the root `root` is; 0 where it is not.
-fn place_as(store: &[u8], paths: &[[u32; 3]], included: &[u32], root: usize, k: usize) -> u32 {
+fn place_as(
+    files: &impl Files,
+    store: &[u8],
+    paths: &[[u32; 3]],
+    included: &[u32],
+    root: usize,
+    k: usize,
+) -> u32 {
     let place = place_at(included, k);
     if place == 0 {
         return 0;
@@ -48,17 +56,27 @@ fn place_as(store: &[u8], paths: &[[u32; 3]], included: &[u32], root: usize, k: 
     if is_root(paths, k) {
         return 0;
     }
-    if is_same_file(path_at(store, paths, root), path_at(store, paths, k)) {
+    if is_same_file(
+        files,
+        path_at(store, paths, root),
+        path_at(store, paths, k),
+    ) {
         return place;
     }
     0
 }
 
 // Where the root `root` is included too, as an entry of any kind; 0 where it is not.
-fn find_place(store: &[u8], paths: &[[u32; 3]], included: &[u32], root: usize) -> u32 {
+fn find_place(
+    files: &impl Files,
+    store: &[u8],
+    paths: &[[u32; 3]],
+    included: &[u32],
+    root: usize,
+) -> u32 {
     let mut k = 0;
     while k < paths.len() {
-        let place = place_as(store, paths, included, root, k);
+        let place = place_as(files, store, paths, included, root, k);
         if place != 0 {
             return place;
         }
@@ -67,11 +85,18 @@ fn find_place(store: &[u8], paths: &[[u32; 3]], included: &[u32], root: usize) -
     0
 }
 
-fn warn_root(store: &[u8], paths: &[[u32; 3]], included: &[u32], k: usize, tallies: &mut [usize]) {
+fn warn_root(
+    files: &impl Files,
+    store: &[u8],
+    paths: &[[u32; 3]],
+    included: &[u32],
+    k: usize,
+    tallies: &mut [usize],
+) {
     if !is_root(paths, k) {
         return;
     }
-    let place = find_place(store, paths, included, k);
+    let place = find_place(files, store, paths, included, k);
     if place == 0 {
         return;
     }
@@ -80,10 +105,16 @@ fn warn_root(store: &[u8], paths: &[[u32; 3]], included: &[u32], k: usize, talli
 }
 
 // Warns of the roots that are included too.
-pub fn warn_roots(store: &[u8], paths: &[[u32; 3]], included: &[u32], tallies: &mut [usize]) {
+pub fn warn_roots(
+    files: &impl Files,
+    store: &[u8],
+    paths: &[[u32; 3]],
+    included: &[u32],
+    tallies: &mut [usize],
+) {
     let mut k = 0;
     while k < paths.len() {
-        warn_root(store, paths, included, k, tallies);
+        warn_root(files, store, paths, included, k, tallies);
         k += 1;
     }
 }

@@ -6,9 +6,11 @@ mod saying;
 mod uses;
 
 use plan::get;
+use std::rt::Files;
 
 // Warns of what the command line gave in vain.
 fn warn_of_options(
+    files: &impl Files,
     store: &[u8],
     table: &[[u32; 5]],
     paths: &[[u32; 3]],
@@ -20,7 +22,7 @@ fn warn_of_options(
 ) {
     uses::warn_unused(store, table, line, rows, count, tallies);
     files::warn_given(store, paths, included, tallies);
-    files::warn_roots(store, paths, included, tallies);
+    files::warn_roots(files, store, paths, included, tallies);
 }
 
 // Warns of what the directives noted do along the map.
@@ -48,6 +50,7 @@ fn warn_of_directives(
 // Does what `warn_all` does, with tables that are lent: the files included late, the directives noted, the names of which
 // nothing is said, the tallies.
 fn warn_by(
+    files: &impl Files,
     store: &[u8],
     table: &[[u32; 5]],
     paths: &[[u32; 3]],
@@ -67,7 +70,9 @@ fn warn_by(
     if silent {
         return 0;
     }
-    warn_of_options(store, table, paths, line, rows, count, included, tallies);
+    warn_of_options(
+        files, store, table, paths, line, rows, count, included, tallies,
+    );
     warn_of_directives(
         store, table, paths, line, rows, count, map, lines, late, seen, vague, tallies,
     );
@@ -77,6 +82,7 @@ fn warn_by(
 // Warns on standard error, unless `silent`; how many warnings were written. `included` tells for each file where the first
 // `include` of it stands: the file there times 131,072, and the line; 0 where there is none.
 pub fn warn_all(
+    files: &impl Files,
     store: &[u8],
     table: &[[u32; 5]],
     paths: &[[u32; 3]],
@@ -93,6 +99,7 @@ pub fn warn_all(
     let mut vague = [[0u32; 3]; 256];
     let mut tallies = [0usize; 8];
     warn_by(
+        files,
         store,
         table,
         paths,

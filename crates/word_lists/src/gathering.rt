@@ -1,6 +1,7 @@
 // The words of the command line, behind each other in one run of bytes, with their ranges.
 use messages::complain;
 use plan::{USED, WORDS, count_up, get, put, sum, to_u32};
+use std::env::{Env, FillError};
 
 // The range of the word that marks the end of a list.
 pub const LIST_END: usize = 4294967295;
@@ -24,36 +25,60 @@ pub fn set_range(words: &mut [[u32; 2]], i: usize, at: usize, end: usize) {
     }
 }
 
+// What came of an argument: it is taken; there is none; or a message was written.
+#[derive(Clone, Copy)]
+enum Gathered {
+    Taken,
+    Absent,
+    Failed,
+}
+
+fn fail_long() -> Gathered {
+    complain_long();
+    Gathered::Failed
+}
+
 // Argument `i`, put behind the words so far.
-fn gather_one(i: usize, line: &mut [u8], words: &mut [[u32; 2]], plan: &mut [usize]) -> bool {
+fn gather_one(
+    env: &impl Env,
+    i: usize,
+    line: &mut [u8],
+    words: &mut [[u32; 2]],
+    plan: &mut [usize],
+) -> Gathered {
     let at = get(plan, USED);
     let most = line.len();
     let k = get(plan, WORDS);
     if most < at {
-        return complain_long();
+        return fail_long();
     }
-    if words.len() <= k {
-        return complain_long();
+    match env.arg(i, &mut line[at..most]) {
+        Ok(n) => {
+            if words.len() <= k {
+                return fail_long();
+            }
+            set_range(words, k, at, sum(at, n));
+            put(plan, USED, sum(at, n));
+            count_up(plan, WORDS);
+            Gathered::Taken
+        }
+        Err(FillError::NotPresent) => Gathered::Absent,
+        Err(FillError::TooLong) => fail_long(),
     }
-    let n = os::arg(i, &mut line[at..most]);
-    if os::errno() != 0 {
-        return complain_long();
-    }
-    set_range(words, k, at, sum(at, n));
-    put(plan, USED, sum(at, n));
-    count_up(plan, WORDS);
-    true
 }
 
 // Puts all arguments behind each other.
-pub fn gather(line: &mut [u8], words: &mut [[u32; 2]], plan: &mut [usize]) -> bool {
-    let n = os::arg_count();
-    let mut i = 1;
-    while i < n {
-        if !gather_one(i, line, words, plan) {
-            return false;
+pub fn gather(env: &impl Env, line: &mut [u8], words: &mut [[u32; 2]], plan: &mut [usize]) -> bool {
+    for i in 1..usize::MAX {
+        match gather_one(env, i, line, words, plan) {
+            Gathered::Taken => {}
+            Gathered::Absent => {
+                return true;
+            }
+            Gathered::Failed => {
+                return false;
+            }
         }
-        i += 1;
     }
-    true
+    complain_long()
 }

@@ -4,6 +4,8 @@ ghost use Rattle.std.specs.Prelude.{◌≤◌};
 use crate::gathering::{LIST_END, complain_long, range_at, set_range};
 use inputs::{Got, fail_at, open_input, read_open};
 use plan::{USED, WORDS, get, put, sum};
+use std::io::Read;
+use std::rt::Files;
 use text::{part_of, peek};
 
 fn is_blank(b: u8) -> bool {
@@ -115,8 +117,9 @@ fn put_list(
     true
 }
 
-// Opens the list whose path stands from `at` to `end` of `line`, behind word `i`.
-pub fn take_list(
+// Reads the open list whose path stands from `at` to `end` of `line`, behind word `i`.
+fn read_list<F: Read + Drop>(
+    file: F,
     i: usize,
     at: usize,
     end: usize,
@@ -124,25 +127,36 @@ pub fn take_list(
     words: &mut [[u32; 2]],
     plan: &mut [usize],
 ) -> bool {
-    let fd = open_input(part_of(line, at, end));
-    if fd < 0 {
-        return false;
-    }
     let used = get(plan, USED);
     let most = line.len();
     if most < used {
         return complain_long();
     }
-    let got = read_open(fd, &mut line[used..most]);
-    match got {
+    match read_open(file, &mut line[used..most]) {
         Got::Whole(n) => {
             put(plan, USED, sum(used, n));
             put_list(i, used, sum(used, n), line, words, plan)
         }
         Got::Full => complain_long(),
-        Got::Unread => {
-            fail_at(part_of(line, at, end));
+        Got::Unread(error) => {
+            fail_at(part_of(line, at, end), error);
             false
         }
+    }
+}
+
+// Opens the list whose path stands from `at` to `end` of `line`, behind word `i`.
+pub fn take_list(
+    files: &impl Files,
+    i: usize,
+    at: usize,
+    end: usize,
+    line: &mut [u8],
+    words: &mut [[u32; 2]],
+    plan: &mut [usize],
+) -> bool {
+    match open_input(files, part_of(line, at, end)) {
+        Some(file) => read_list(file, i, at, end, line, words, plan),
+        None => false,
     }
 }

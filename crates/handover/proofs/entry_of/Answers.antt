@@ -1,4 +1,3 @@
-use Prim.Native.Nat.{◌-◌}
 use mathlib.Core.List.{[]}
 use Rattle.handover.proofs.Walking.{named_out, named_here, named_more}
 use Rattle.handover.proofs.entry_of.Goals as goal

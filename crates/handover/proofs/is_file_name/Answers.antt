@@ -1,4 +1,3 @@
-use Prim.Native.Nat.{◌-◌}
 use mathlib.Core.Path.{sym, ◌∙◌}
 use Rattle.handover.proofs.Walking.{name_unsized, name_sized, bytes_out, bytes_none, bytes_more}
 use Rattle.std.proofs.lemmas.Bool.{not_from_true, not_from_false}

@@ -1,5 +1,4 @@
 use mathlib.Core.Path.{sym, ◌∙◌}
-use Prim.Native.Nat.{◌-◌}
 use native.Mathlib.Omega.{arith}
 use Rattle.keywords.proofs.Places.{firsts_number}
 use Rattle.keywords.proofs.Searching.{passed_before, passed_one, passed_all, found, too_long}

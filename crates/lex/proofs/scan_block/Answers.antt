@@ -1,5 +1,4 @@
 use mathlib.Core.Path.{refl, sym, ◌∙◌}
-use Prim.Native.Nat.{◌-◌}
 use Rattle.lex.specs.Scans.{block_end}
 use Rattle.lex.proofs.Scanning.{block_close, block_more, block_out}
 use Rattle.lex.proofs.scan_block.Goals as goal

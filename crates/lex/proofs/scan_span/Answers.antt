@@ -1,5 +1,4 @@
 use mathlib.Core.Path.{refl, sym, ◌∙◌}
-use Prim.Native.Nat.{◌-◌}
 use Rattle.lex.specs.Scans.{span_end}
 use Rattle.lex.proofs.Scanning.{span_stop, span_halt, span_more, span_out}
 use Rattle.std.proofs.lemmas.Bool.{not_from_true, not_from_false}

@@ -1,5 +1,4 @@
 use mathlib.Core.Path.{refl, sym, ◌∙◌}
-use Prim.Native.Nat.{◌-◌}
 use Rattle.lex.specs.Scans.{string_end}
 use Rattle.lex.proofs.Scanning.{string_escaped, string_close, string_newline, string_more, string_out}
 use Rattle.lex.proofs.scan_string.Goals as goal

@@ -1,4 +1,3 @@
-use Prim.Native.Nat.{◌-◌}
 use native.Mathlib.Omega.{arith}
 use Rattle.packed.proofs.Moves.{blanked_none, blanked_next, blanked_done}
 use Rattle.packed.proofs.clear_records.Goals as goal

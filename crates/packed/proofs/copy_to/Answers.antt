@@ -1,4 +1,3 @@
-use Prim.Native.Nat.{◌-◌}
 use native.Mathlib.Omega.{arith}
 use Rattle.packed.proofs.Moves.{copied_none, copied_next, copied_done}
 use Rattle.packed.proofs.copy_to.Goals as goal

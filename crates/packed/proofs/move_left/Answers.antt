@@ -1,4 +1,3 @@
-use Prim.Native.Nat.{◌-◌}
 use native.Mathlib.Omega.{arith}
 use Rattle.packed.proofs.Moves.{left_none, left_next, left_done}
 use Rattle.packed.proofs.move_left.Goals as goal

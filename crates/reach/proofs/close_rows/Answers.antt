@@ -1,4 +1,3 @@
-use Prim.Native.Nat.{◌-◌}
 use native.Mathlib.Omega.{arith}
 use Rattle.reach.proofs.Inner.{known_none, known_more, known_all}
 use Rattle.reach.proofs.close_rows.Goals as goal

@@ -1,4 +1,3 @@
-use Prim.Native.Nat.{◌-◌}
 use native.Mathlib.Omega.{arith}
 use Rattle.reach.proofs.Joining.{joining_none, joining_more, joining_all}
 use Rattle.reach.proofs.join_rows.Goals as goal

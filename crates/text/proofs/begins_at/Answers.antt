@@ -1,5 +1,4 @@
 use mathlib.Core.Path.{refl, sym, ◌∙◌}
-use Prim.Native.Nat.{◌-◌}
 use native.Mathlib.Omega.{arith}
 use Rattle.text.proofs.Matching.{begins_end, begins_past, begins_differ, begins_next}
 use Rattle.text.proofs.begins_at.Goals as goal

@@ -1,4 +1,3 @@
-use Prim.Native.Nat.{◌-◌}
 use native.Mathlib.Omega.{arith}
 use Rattle.text.proofs.Comparing.{agree_none, agree_long, agree_short, agree_end, agree_less, agree_more, agree_next}
 use Rattle.text.proofs.compare.Goals as goal

@@ -1,5 +1,4 @@
 use mathlib.Core.Path.{sym, ◌∙◌}
-use Prim.Native.Nat.{◌-◌}
 use Rattle.text.proofs.Matching.{holds_out, holds_hit, holds_miss, holds_none}
 use Rattle.text.proofs.holds_in.Goals as goal
 

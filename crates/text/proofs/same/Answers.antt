@@ -1,5 +1,4 @@
 use mathlib.Core.Path.{refl, sym, ◌∙◌}
-use Prim.Native.Nat.{◌-◌}
 use native.Mathlib.Omega.{arith}
 use Rattle.text.proofs.Matching.{same_end, same_differ, same_next, same_length}
 use Rattle.text.proofs.same.Goals as goal

@@ -1,5 +1,3 @@
-use Prim.Native.Nat.{◌-◌}
-use mathlib.Core.Logic.{⊎_elim}
 use Rattle.writing.proofs.Writing.{counted_none, counted_line, counted_other, counted_all}
 use Rattle.writing.proofs.count_lines.Goals as goal
 use Rattle.writing.proofs.count_lines.Goals.{then-f, else-f}

@@ -1,4 +1,3 @@
-use Prim.Native.Nat.{◌-◌}
 use native.Mathlib.Omega.{arith}
 use Rattle.writing.proofs.Laws.{puts_text, puts_map}
 use Rattle.writing.proofs.Writing.{going_none, going_room, going_place, going_next, going_all}

@@ -1,6 +1,5 @@
 -- `records::load` meets its contract. Assumes nothing.
 use Rattle.std.proofs.Common.{◌∙◌, arith}
-use Rattle.records.proofs.Few.{few_least, few_most}
 use Rattle.records.proofs.Tables.{tabled_first, tabled_turn}
 use Rattle.records.proofs.load.Goals as goal
 

@@ -2,6 +2,7 @@
 // UTF-8 text in std, so a path that is no such text stands for no file.
 #![tactic(auto)]
 
+ghost use Rattle.identity.specs.Ended.{Ended};
 ghost use Rattle.io.specs.Counts.{IsPrefixLen};
 
 use std::alloc::Alloc;
@@ -10,6 +11,9 @@ use std::io::{Error, ErrorKind, Result};
 use std::os::unix::fs::MetadataExt;
 use std::rt::Files;
 use std::{fs, str};
+
+// The most bytes of a path: one of the 4,096 is the 0 that ends it.
+const LAST: usize = 4095;
 
 // What a file is known by. Where `found` is false the other fields are 0.
 #[derive(Clone, Copy)]
@@ -30,10 +34,11 @@ pub fn text_of(path: &[u8]) -> Result<&str> {
 
 // The file at the path, at a link the file where it leads. A path that is empty, has a 0 byte or is over 4,095 bytes is not found.
 pub fn of_path(files: &impl Files, path: &[u8]) -> Identity {
-    match text_of(path) {
-        Ok(text) => found_by(fs::metadata(files, text)),
-        Err(_) => unknown(),
+    if !is_path(path) {
+        return unknown();
     }
+    let path = ended(path);
+    stat_of(files, &path)
 }
 
 // The file that is open at the descriptor.
@@ -91,6 +96,53 @@ pub fn link_of(rt: &(impl Files + Alloc), path: &[u8], out: &mut [u8]) -> usize
     }
 }
 
+// Whether the system can be handed all of the path.
+fn is_path(path: &[u8]) -> bool {
+    if path.len() == 0 {
+        return false;
+    }
+    if path.len() > LAST {
+        return false;
+    }
+    let mut i = 0;
+    while i < path.len() {
+        if path[i] == 0 {
+            return false;
+        }
+        i += 1;
+    }
+    true
+}
+
+// As much of the path as leaves room for a 0, and then zeros.
+fn ended(path: &[u8]) -> [u8; 4096]
+    ensures { Ended result }
+{
+    let mut text = io::buffer();
+    let mut i = 0;
+    while i < path.len() {
+        if i >= LAST {
+            break;
+        }
+        text[i] = path[i];
+        i += 1;
+    }
+    text[LAST] = 0;
+    text
+}
+
+// The bytes before the first 0.
+fn until_zero(path: &[u8]) -> &[u8] {
+    let mut i = 0;
+    while i < path.len() {
+        if path[i] == 0 {
+            return &path[..i];
+        }
+        i += 1;
+    }
+    path
+}
+
 // Puts `w` at the front of `out` and answers its length; 0 where it does not leave a byte free.
 fn put_whole(w: &[u8], out: &mut [u8]) -> usize
     ensures { IsPrefixLen result out.new }
@@ -131,6 +183,16 @@ fn found_by(told: Result<Metadata>) -> Identity {
             inode: told.ino(),
             mode: told.mode(),
         },
+        Err(_) => unknown(),
+    }
+}
+
+// The file at a path that the system can be handed.
+fn stat_of(files: &impl Files, path: &[u8; 4096]) -> Identity
+    requires { Ended path.now }
+{
+    match text_of(until_zero(path)) {
+        Ok(text) => found_by(fs::metadata(files, text)),
         Err(_) => unknown(),
     }
 }

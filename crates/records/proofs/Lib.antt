@@ -1,7 +1,3 @@
-pub mod Testing
-pub mod Rec
-pub mod Again
-pub mod Calling
 pub mod Shift
 pub mod UpTo
 pub mod Tables

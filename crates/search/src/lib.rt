@@ -187,7 +187,16 @@ fn seek_row(
     if peek(store, w.at) == 47 {
         return Search::Missing;
     }
-    seek_in(files, w, word_at(line, rows, i), line, plan, store, table, paths)
+    seek_in(
+        files,
+        w,
+        word_at(line, rows, i),
+        line,
+        plan,
+        store,
+        table,
+        paths,
+    )
 }
 
 // Seeks the file in the folders of -I, in their order.

@@ -3,8 +3,7 @@
 
 ghost use Rattle.std.specs.Prelude.{◌≤◌, length};
 
-use flatten::flatten;
-use flatten::Flattened;
+use flatten::{Flattened, flatten};
 use formats::{STDERR_FILENO, STDIN_FILENO, STDOUT_FILENO};
 use input::Parsed;
 use text::part_of;

@@ -9,7 +9,7 @@ use lib.ListN.{length}
 use Rattle.definition.specs.Definitions.{Macro, Definition, barred, bad, good}
 use Rattle.store.specs.Stores.{define, undefine, fits}
 use Rattle.store.specs.Buffers.{Holds}
-use Rattle.macros.specs.Adding.{answer_to, macros_after, Reads}
+use Rattle.macros.specs.Defining.{answer_to, macros_after, Reads}
 use Rattle.macros.specs.Starting.{started, starts_fit}
 use Rattle.macros.specs.declared.ReadIn.{ReadIn}
 use Rattle.macros.specs.declared.ReadIn.TheVariants as read

@@ -15,11 +15,11 @@
 ghost use Rattle.std.specs.Prelude.{◌≡◌, ◌<◌, ◌≤◌, length};
 ghost use Rattle.store_cases.specs.Kept.{Kept, counted};
 
-use macros::ReadIn;
 use formats::{
     STDIN_FILENO, field_at, field_end, least, number_at, say, say_count, say_hex, say_number,
     say_pass, say_records,
 };
+use macros::ReadIn;
 use text::part_of;
 
 fn wide(b: u8) -> usize

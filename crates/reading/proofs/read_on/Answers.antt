@@ -1,10 +1,6 @@
 use mathlib.Core.Path.{◌∙◌}
-use Rattle.reading.proofs.Onward.{outside_word, word_low, word_high, onward_none, answers_full, Stopped, onward_upto, answers_barred, answers_upto, answers_refused, onward_less, onward_word}
+use Rattle.reading.proofs.Onward.{outside_word, word_low, word_high, onward_none, answers_full, onward_upto, answers_barred, answers_upto, answers_refused, onward_less, onward_word}
 use Rattle.reading.proofs.read_on.Goals as goal
-
--- up to the token that stops
-stopped : (c : goal.In-Upto) → Stopped c.args.s.now c.args.file c.args.bytes.now c.args.records.now c.args.macros c.args.conds.now c.loop-e.conds c.args.text.now c.pass_on-r.new.text c.args.map.now c.pass_on-r.new.map c.args.start c.loop-e.c c.in-Upto.e c.args.spot c.in-Upto.z c.args.blocks c.loop-e.k c.in-Upto.t
-stopped c = onward_upto c.loop-e.invariant c.place_of-base.ensures c.pass_on-r.ensures c.in-Upto.is
 
 pub loop-e-init : goal.loop-e-init
 loop-e-init c = onward_none c.requires.1 c.requires.2
@@ -34,7 +30,7 @@ pub shape_of-map-then-t-ne0 : goal.shape_of-map-then-t-ne0
 shape_of-map-then-t-ne0 c = c.pass_on-r.auto.map ∙ c.loop-e.invariant.same_map
 
 pub returns-then-t-ne0 : goal.returns-then-t-ne0
-returns-then-t-ne0 c = answers_barred (stopped c) c.if-t-ne0.true
+returns-then-t-ne0 c = answers_barred (onward_upto c.loop-e.invariant c.place_of-base.ensures c.pass_on-r.ensures c.in-Upto.is) c.if-t-ne0.true
 
 pub shape_of-conds-then-d : goal.shape_of-conds-then-d
 shape_of-conds-then-d c = c.loop-e.invariant.same_conds
@@ -46,16 +42,16 @@ pub shape_of-map-then-d : goal.shape_of-map-then-d
 shape_of-map-then-d c = c.pass_on-r.auto.map ∙ c.loop-e.invariant.same_map
 
 pub returns-then-d : goal.returns-then-d
-returns-then-d c = answers_upto (stopped c) c.if-t-ne0.false c.part_of.ensures c.directive_of-d.ensures (outside_word c.directive_of-d.result c.if-d.true)
+returns-then-d c = answers_upto (onward_upto c.loop-e.invariant c.place_of-base.ensures c.pass_on-r.ensures c.in-Upto.is) c.if-t-ne0.false c.part_of.ensures c.directive_of-d.ensures (outside_word c.directive_of-d.result c.if-d.true)
 
 pub choose-x-requires : goal.choose-x-requires
 choose-x-requires c = (c.loop-e.invariant.blocks_are, c.requires.3)
 
 pub loop-e-smaller : goal.loop-e-smaller
-loop-e-smaller c = onward_less (stopped c) c.if-t-ne0.false c.part_of.ensures c.directive_of-d.ensures (word_low _ c.if-d.false) (word_high _ c.if-d.false) c.requires.3 c.choose-x.result c.choose-x.new.conds c.choose-x.ensures c.in-To.is c.cursor_behind-c.ensures
+loop-e-smaller c = onward_less (onward_upto c.loop-e.invariant c.place_of-base.ensures c.pass_on-r.ensures c.in-Upto.is) c.if-t-ne0.false c.part_of.ensures c.directive_of-d.ensures (word_low _ c.if-d.false) (word_high _ c.if-d.false) c.requires.3 c.choose-x.result c.choose-x.new.conds c.choose-x.ensures c.in-To.is c.cursor_behind-c.ensures
 
 pub loop-e-preserved : goal.loop-e-preserved
-loop-e-preserved c = onward_word (stopped c) c.if-t-ne0.false c.part_of.ensures c.directive_of-d.ensures (word_low _ c.if-d.false) (word_high _ c.if-d.false) c.requires.3 c.choose-x.result c.choose-x.new.conds c.choose-x.ensures c.in-To.is c.cursor_behind-c.ensures c.choose-x.auto.conds
+loop-e-preserved c = onward_word (onward_upto c.loop-e.invariant c.place_of-base.ensures c.pass_on-r.ensures c.in-Upto.is) c.if-t-ne0.false c.part_of.ensures c.directive_of-d.ensures (word_low _ c.if-d.false) (word_high _ c.if-d.false) c.requires.3 c.choose-x.result c.choose-x.new.conds c.choose-x.ensures c.in-To.is c.cursor_behind-c.ensures c.choose-x.auto.conds
 
 pub shape_of-conds-in-Refused : goal.shape_of-conds-in-Refused
 shape_of-conds-in-Refused c = c.choose-x.auto.conds ∙ c.loop-e.invariant.same_conds
@@ -67,4 +63,4 @@ pub shape_of-map-in-Refused : goal.shape_of-map-in-Refused
 shape_of-map-in-Refused c = c.pass_on-r.auto.map ∙ c.loop-e.invariant.same_map
 
 pub returns-in-Refused : goal.returns-in-Refused
-returns-in-Refused c = answers_refused (stopped c) c.if-t-ne0.false c.part_of.ensures c.directive_of-d.ensures (word_low _ c.if-d.false) (word_high _ c.if-d.false) c.requires.3 c.choose-x.result c.choose-x.new.conds c.choose-x.ensures c.in-Refused.is
+returns-in-Refused c = answers_refused (onward_upto c.loop-e.invariant c.place_of-base.ensures c.pass_on-r.ensures c.in-Upto.is) c.if-t-ne0.false c.part_of.ensures c.directive_of-d.ensures (word_low _ c.if-d.false) (word_high _ c.if-d.false) c.requires.3 c.choose-x.result c.choose-x.new.conds c.choose-x.ensures c.in-Refused.is

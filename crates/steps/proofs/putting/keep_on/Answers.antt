@@ -1,0 +1,13 @@
+-- `steps::putting::keep_on` meets its contract.
+-- Assumes nothing.
+use Rattle.steps.proofs.Writing.{spot_reads, keep_to, keep_refused}
+use Rattle.steps.proofs.putting.keep_on.Goals as goal
+
+pub behind-k-requires : goal.behind-k-requires
+behind-k-requires c = spot_reads c.args.s.now c.args.z c.with_spot.result _ c.requires.3 c.with_spot.ensures
+
+pub returns-in-To : goal.returns-in-To
+returns-in-To c store table limit bs rs fr cd here x ms fixed ok held = keep_to limit ms fixed here ok held _ _ c.place_of.ensures c.args.d c.keep-r.ensures c.in-To.is c.with_spot.ensures c.behind-k.ensures
+
+pub returns-in-Refused : goal.returns-in-Refused
+returns-in-Refused c store table limit bs rs fr cd here x ms fixed ok held = keep_refused limit ms fixed here ok held _ _ c.place_of.ensures c.args.d c.keep-r.ensures c.in-Refused.is c.refuse.ensures

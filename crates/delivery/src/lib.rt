@@ -111,7 +111,9 @@ fn deliver_text(
     let Some(mut to) = open_output(rt, TEXT, line, plan) else {
         return false;
     };
-    let written = write_text(&mut to, plan, flat, store, table, paths, map, bytes, records);
+    let written = write_text(
+        &mut to, plan, flat, store, table, paths, map, bytes, records,
+    );
     close_output(TEXT, line, plan, to, written)
 }
 
@@ -145,12 +147,7 @@ fn all_stand(files: &impl Files, line: &[u8], plan: &[usize]) -> bool {
 }
 
 // Puts the outputs in place, if all are written; else none of their new files is left.
-fn put_in_place(
-    rt: &(impl Files + Alloc),
-    line: &[u8],
-    plan: &mut [usize],
-    written: bool,
-) -> bool {
+fn put_in_place(rt: &(impl Files + Alloc), line: &[u8], plan: &mut [usize], written: bool) -> bool {
     if !written {
         drop_all(rt, line, plan);
         return false;
@@ -204,7 +201,9 @@ fn write_all(
     if !deliver_words(rt, line, plan, flat, words) {
         return false;
     }
-    deliver_text(rt, line, plan, flat, store, table, paths, map, bytes, records)
+    deliver_text(
+        rt, line, plan, flat, store, table, paths, map, bytes, records,
+    )
 }
 
 fn give_up(line: &[u8], plan: &[usize]) -> bool {

@@ -47,9 +47,7 @@ fn seek_refused(
     if r.number != 9 {
         return;
     }
-    let s = find_missing(
-        files, r.file, r.byte, line, rows, plan, store, table, paths,
-    );
+    let s = find_missing(files, r.file, r.byte, line, rows, plan, store, table, paths);
     match s {
         Search::Added => put(plan, ADDED, 1),
         Search::Missing => {}

@@ -32,13 +32,7 @@ fn flatten_files(
 }
 
 // Pass or look up, where the flattening was not refused. `answer_macros` has two calls that differ, so it keeps a frame of its own.
-fn answer_left(
-    rt: &HostRuntime,
-    left: Left,
-    command: usize,
-    name: &[u8],
-    bytes: &[u8],
-) -> u8 {
+fn answer_left(rt: &HostRuntime, left: Left, command: usize, name: &[u8], bytes: &[u8]) -> u8 {
     if left.digit != DONE {
         return left.digit;
     }

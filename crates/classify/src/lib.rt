@@ -58,6 +58,7 @@ fn past_form(f: Form, start: usize, set: usize, at: usize) -> Past
 }
 
 // The definition whose word ends at `at`, judged with bytes for the brackets of any text.
+#[inline(never)]
 fn judge_deep(s: &[u8], at: usize, name: &mut [u8]) -> Judged
     requires { (length s.now ≤ 16777215) × (1025 ≤ length name.old) }
     ensures { result ≡ judged_of (definition_at s.now at) }

@@ -57,7 +57,8 @@ fn past_form(f: Form, start: usize, set: usize, at: usize) -> Past
     }
 }
 
-// The definition whose word ends at `at`, judged with bytes for the brackets of any text.
+// The definition whose word ends at `at`, judged with bytes for the brackets of any text. Its large array stays out of the frames of
+// its callers.
 #[inline(never)]
 fn judge_deep(s: &[u8], at: usize, name: &mut [u8]) -> Judged
     requires { (length s.now ≤ 16777215) × (1025 ≤ length name.old) }
@@ -304,8 +305,7 @@ fn classify_taken(text: &[u8], set: usize, words: &mut [[u32; 3]]) -> Classified
 
 // Every plain name of `text` outside directives, as offset, length and 1 if the keyword set in force reserves it, else
 // 0. `set` is the keyword set at the start: 0 for 1364-1995, 1 for 1364-2001, 2 for 1364-2005, 3 for 1800-2005.
-#[unsafe(no_mangle)]
-pub extern "C" fn classify(text: &[u8], set: u32, words: &mut [[u32; 3]]) -> Classified
+pub fn classify(text: &[u8], set: u32, words: &mut [[u32; 3]]) -> Classified
     ensures { Answered text.now (outcome_of set text.now (length words.old)) words.old words.new result }
 {
     if (3 < set) | (16777215 < text.len()) {

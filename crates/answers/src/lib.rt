@@ -128,7 +128,8 @@ fn answer_written(written: bool, r: Flattened, plan: &[usize]) -> u8 {
     DONE
 }
 
-// Writes what is asked of a flat text, unless its words are refused.
+// Writes what is asked of a flat text, unless its words are refused. It keeps a frame of its own, as `answer_macros` does.
+#[inline(never)]
 fn write_flat(
     rt: &HostRuntime,
     r: Flattened,
@@ -290,6 +291,7 @@ pub fn finish(
 }
 
 // Pass, or look up, on the macros that are left.
+#[inline(never)]
 pub fn answer_macros(
     rt: &HostRuntime,
     command: usize,

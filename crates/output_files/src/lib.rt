@@ -6,6 +6,6 @@ mod opening;
 mod placing;
 mod targets;
 
-pub use opening::{Sink, close_output, fail_at, open_output, standard};
+pub use opening::{Sink, close_output, open_output};
 pub use placing::{drop_output, is_repeatable, place_output, set_aside, stands};
 pub use targets::{is_standard, names_one, overwrites};

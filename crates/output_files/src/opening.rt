@@ -61,11 +61,6 @@ impl Write for Sink {
     }
 }
 
-// Standard output, to write to.
-pub fn standard(rt: &HostRuntime) -> Sink {
-    Sink::Output(rt.stdout())
-}
-
 // What failed with an output.
 pub fn fail_at(path: &[u8], error: Error) {
     if is_standard(path) {
@@ -203,7 +198,7 @@ pub fn open_output(rt: &HostRuntime, k: usize, line: &[u8], plan: &mut [usize]) 
     put(plan, way_slot(k), NOT);
     if is_standard(path) {
         put(plan, way_slot(k), OPEN);
-        return Some(standard(rt));
+        return Some(Sink::Output(rt.stdout()));
     }
     match open_path(rt, path, k, plan) {
         Ok(to) => Some(to),

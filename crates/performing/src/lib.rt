@@ -8,7 +8,9 @@ use options::{FLATTEN, PASS};
 use plan::{COMMAND, ENTRY, NAME, SET, get, range_at};
 use refusals::body_at;
 
-// Flattens into a text and a map of its own, and finishes.
+// Flattens into a text and a map of its own, and finishes. It keeps a frame of its own, so that its 3 MiB are free before pass takes
+// 5.
+#[inline(never)]
 fn flatten_files(
     rt: &HostRuntime,
     write: bool,
@@ -31,7 +33,7 @@ fn flatten_files(
     )
 }
 
-// Pass or look up, where the flattening was not refused. `answer_macros` has two calls that differ, so it keeps a frame of its own.
+// Pass or look up, where the flattening was not refused.
 fn answer_left(rt: &HostRuntime, left: Left, command: usize, name: &[u8], bytes: &[u8]) -> u8 {
     if left.digit != DONE {
         return left.digit;
@@ -43,8 +45,7 @@ fn answer_left(rt: &HostRuntime, left: Left, command: usize, name: &[u8], bytes:
     answer_macros(rt, command, name, bytes, records)
 }
 
-// Flattens, and answers what is asked. `flatten_files` has two calls that differ too, so that its 4 MiB are free before pass takes
-// 5.
+// Flattens, and answers what is asked.
 pub fn perform(
     rt: &HostRuntime,
     line: &[u8],
@@ -69,7 +70,8 @@ pub fn perform(
     answer_left(rt, left, command, range_at(line, plan, NAME), bytes)
 }
 
-// The words of the one file, whatever its size.
+// The words of the one file, whatever its size. It keeps a frame of its own, which is not there while files are flattened.
+#[inline(never)]
 pub fn list_words(
     rt: &HostRuntime,
     plan: &[usize],

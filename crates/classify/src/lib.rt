@@ -68,8 +68,7 @@ fn judge_deep(s: &[u8], at: usize, name: &mut [u8]) -> Judged
     judge_definition(s, at, name, &mut stack)
 }
 
-// With the lent bytes for brackets first, then with more. `tries` is 2 at first. It calls itself, and not as the last thing it
-// does, so that the large array stays out of its own frame and its callers': LLVM moves none into a function that does.
+// With the lent bytes for brackets first, then with more. `tries` is 2 at first.
 fn judge(s: &[u8], at: usize, name: &mut [u8], stack: &mut [u8], tries: usize) -> Judged
     requires { (length s.now ≤ 16777215) × (1025 ≤ length name.old) }
     ensures { result ≡ judged_of (definition_at s.now at) }

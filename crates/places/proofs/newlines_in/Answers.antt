@@ -1,14 +1,16 @@
-use Rattle.places.proofs.Filling.{counted_none, counted_newline, counted_other, counted_all}
+-- `places::newlines_in` meets its contract.
+-- Assumes nothing.
+use mathlib.Core.Path.{sym, ◌≡◌, ◌∙◌}
+use native.Mathlib.Omega.{arith}
+use lib.Dec.{eqb}
+use Rattle.std.proofs.Common.{rules, ℕ}
+use Rattle.std.specs.List.{count_by}
+use Rattle.places.proofs.Filling.{newlines_counted}
+use Rattle.places.proofs.Lines.{newlines_length}
 use Rattle.places.proofs.newlines_in.Goals as goal
 
-pub loop-i-init : goal.loop-i-init
-loop-i-init c = counted_none _
-
-pub loop-i-preserved-then-w-i-eq10 : goal.loop-i-preserved-then-w-i-eq10
-loop-i-preserved-then-w-i-eq10 c = counted_newline c.loop-i.invariant c.loop-i-test.true c.if-w-i-eq10.true
-
-pub loop-i-preserved : goal.loop-i-preserved
-loop-i-preserved c = counted_other c.loop-i.invariant c.loop-i-test.true c.if-w-i-eq10.false
-
 pub returns : goal.returns
-returns c = counted_all c.loop-i.invariant c.loop-i-test.false
+returns c =
+    let n : c.count.result ≡ count_by (λ (b : ℕ). eqb b 10) c.args.w.now = search rules in
+    let m = n ∙ sym (newlines_counted c.args.w.now) in
+    (m, omega (arith, m, newlines_length c.args.w.now))

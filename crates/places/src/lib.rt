@@ -6,11 +6,17 @@ ghost use Rattle.places.specs.Places.{newlines, line_at, place_of, quoted, decim
 
 use text::part_of;
 
-// How many newlines are among the bytes.
+// How many newlines are among the bytes. A `for`: with `filter` and `count` a long comment took a quarter more instructions.
 pub fn newlines_in(w: &[u8]) -> usize
     ensures { (result ≡ newlines w.now) × (result ≤ length w.now) }
 {
-    w.iter().filter(|&&b| b == 10).count()
+    let mut n = 0;
+    for &b in w {
+        if b == 10 {
+            n += 1;
+        }
+    }
+    n
 }
 
 // The line of the byte at `at`.

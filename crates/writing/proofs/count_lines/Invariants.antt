@@ -1,4 +1,4 @@
--- `writing::count_lines` meets its contract. The invariant: `n` entries before `i`, with those from `i` on, are the entries of the bytes.
+-- `writing::count_lines` meets its contract. The invariant: `n` entries before the index, with those from it on, are the entries of the bytes.
 -- Assumes nothing.
 use Rattle.writing.proofs.Writing.{Counted}
 use Rattle.writing.proofs.count_lines.Given as goal

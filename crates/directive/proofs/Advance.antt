@@ -22,8 +22,7 @@ use Rattle.directive.specs.declared.Word.{Word}
 use Rattle.directive.specs.declared.Word.TheVariants as word
 use Rattle.directive.specs.declared.Time.{Time}
 use Rattle.directive.specs.declared.Time.TheVariants as time
-use Rattle.directive.specs.declared.Raw.{Raw}
-use Rattle.directive.specs.declared.Raw.TheVariants as raw
+use Rattle.std.proofs.Common.{Option, Some, None}
 use Rattle.directive.specs.declared.FileName.{FileName}
 use Rattle.directive.specs.declared.FileName.TheVariants as file
 use Rattle.directive.specs.declared.IncludeLine.{IncludeLine}
@@ -48,9 +47,9 @@ TimePast i (time.Power n e) = i ≤ e
 TimePast i time.Unformed = Unit {0}
 TimePast i (time.Barred n p) = Unit {0}
 
-RawPast : ℕ → Raw → Type 0
-RawPast i (raw.Closed e n) = i ≤ e
-RawPast i raw.Open = Unit {0}
+RawPast : ℕ → Option (ℕ × ℕ) → Type 0
+RawPast i (Some (e, n)) = i ≤ e
+RawPast i None = Unit {0}
 
 LinePast : ℕ → IncludeLine → Type 0
 LinePast i l = i ≤ l.end
@@ -178,10 +177,10 @@ module _ (i : ℕ) where
   unfolding behind_at
   behind-at s n e f h = behind_past s n e f _ (tokens in_file s e) h
 
-  angled-by : (s : List ℕ) (j e : ℕ) (f : Fault) (r : Raw) → i ≤ e → RawPast i r → LinePast i (angled_by s j e f r)
+  angled-by : (s : List ℕ) (j e : ℕ) (f : Fault) (r : Option (ℕ × ℕ)) → i ≤ e → RawPast i r → LinePast i (angled_by s j e f r)
   unfolding RawPast
-  angled-by s j e f (raw.Closed x n) h g = behind-at s _ (x + 1) (worse_of f (fault n j)) (omega arith)
-  angled-by s j e f raw.Open h g = behind-at s _ e f h
+  angled-by s j e f (Some (x, n)) h g = behind-at s _ (x + 1) (worse_of f (fault n j)) (omega arith)
+  angled-by s j e f None h g = behind-at s _ e f h
 
   name-at : (s : List ℕ) (t : Token) (f : Fault) → i ≤ t.end → LinePast i (name_at s t f)
   unfolding name_at raw_end

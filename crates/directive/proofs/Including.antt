@@ -18,8 +18,7 @@ use Rattle.lex.specs.Tokens.{in_file, Newline, is_gap, token_at, tokens}
 use Rattle.lex.specs.Faults.{fault_of, worse_of}
 use Rattle.lex.proofs.Tests.{by_test}
 use Rattle.lex.proofs.Listing.{tokens_out}
-use Rattle.directive.specs.declared.Raw.{Raw}
-use Rattle.directive.specs.declared.Raw.TheVariants.{Closed, Open}
+use Rattle.std.proofs.Common.{Option, Some, None}
 use Rattle.directive.specs.declared.FileName.{FileName}
 use Rattle.directive.specs.declared.FileName.TheVariants.{Unnamed}
 use Rattle.directive.specs.Words.{wraps}
@@ -28,17 +27,17 @@ use Rattle.directive.proofs.Wording.{token_first}
 
 -- a raw name from i on
 module _ (s : List ℕ) (i : ℕ) (ok : Bool) where
-  pub raw_out : length s ≤ i → raw_from ok i (drop i s) ≡ Open
+  pub raw_out : length s ≤ i → raw_from ok i (drop i s) ≡ None
   unfolding raw_from
   raw_out h = rw (drop_of_length-le s h)
 
   module _ (h : i < length s) where
-    pub raw_closed : get_or s i 0 ≡ 62 → raw_from ok i (drop i s) ≡ Closed i (cond ok 0 2)
+    pub raw_closed : get_or s i 0 ≡ 62 → raw_from ok i (drop i s) ≡ Some (i, cond ok 0 2)
     unfolding raw_from
     raw_closed e = rw (drop-cons s i 0 h, eq-eqb (get_or s i 0) 62 e)
 
     module _ (n : get_or s i 0 ≡ 62 → ⊥) where
-      pub raw_newline : get_or s i 0 ≡ 10 → raw_from ok i (drop i s) ≡ Open
+      pub raw_newline : get_or s i 0 ≡ 10 → raw_from ok i (drop i s) ≡ None
       unfolding raw_from
       raw_newline e = rw (drop-cons s i 0 h, ne_eqb (get_or s i 0) 62 n, eq-eqb (get_or s i 0) 10 e)
 
@@ -47,9 +46,9 @@ module _ (s : List ℕ) (i : ℕ) (ok : Bool) where
       raw_on e = rw (add-one i, drop-cons s i 0 h, ne_eqb (get_or s i 0) 62 n, ne_eqb (get_or s i 0) 10 e)
 
 -- its `>` lies in the text
-ClosedBelow : ℕ → Raw → Type 0
-ClosedBelow n (Closed e b) = e < n
-ClosedBelow n Open = Unit {0}
+ClosedBelow : ℕ → Option (ℕ × ℕ) → Type 0
+ClosedBelow n (Some (e, b)) = e < n
+ClosedBelow n None = Unit {0}
 
 closed_below : (ok : Bool) (i n : ℕ) (xs : List ℕ) → i + length xs ≤ n → ClosedBelow n (raw_from ok i xs)
 unfolding ClosedBelow raw_from
@@ -58,7 +57,7 @@ closed_below ok i n (x ∷ xs) h =
     by_test (ClosedBelow n) (eqb x 62) (λ e. omega arith)
     (λ e. by_test (ClosedBelow n) (eqb x 10) (λ e. tt) (λ e. closed_below (ok && is_legal x) (suc i) n xs (omega arith)))
 
-pub raw_inside : (s : List ℕ) (i e n : ℕ) → raw_end s i ≡ Closed e n → i < length s + 1 → e < length s
+pub raw_inside : (s : List ℕ) (i e n : ℕ) → raw_end s i ≡ Some (e, n) → i < length s + 1 → e < length s
 unfolding ClosedBelow raw_end
 raw_inside s i e n q h =
     subst (ClosedBelow (length s)) q (closed_below true i (length s) (drop i s) (omega (arith, length-drop i s)))

@@ -1,28 +1,26 @@
 -- An include's line, read whole: `` `include "n"`` or `<n>`.
 -- Assumes nothing.
-use Rattle.std.specs.Prelude.{ℕ, suc, ◌+◌, ◌-◌, Bool, true, false, cond, not, ◌&&◌, ◌||◌, List, [], ◌∷◌, eqb, drop}
+use Rattle.std.specs.Prelude.{Option, Some, None, ℕ, suc, ◌+◌, ◌-◌, Bool, true, false, cond, not, ◌&&◌, ◌||◌, List, [], ◌∷◌, eqb, drop}
 use Rattle.lex.specs.Classes.{is_legal}
 use Rattle.lex.specs.Tokens.{in_file, Newline, String, is, is_byte, is_gap, tokens}
 use Rattle.lex.specs.Faults.{fault, no_fault, fault_of, worse_of}
 use Rattle.lex.specs.declared.Token.{Token}
 use Rattle.lex.specs.declared.Fault.{Fault}
 use Rattle.directive.specs.Words.{wraps}
-use Rattle.directive.specs.declared.Raw.{Raw}
-use Rattle.directive.specs.declared.Raw.TheVariants.{Closed, Open}
 use Rattle.directive.specs.declared.FileName.{FileName}
 use Rattle.directive.specs.declared.FileName.TheVariants.{Unnamed, Quoted, Angled}
 use Rattle.directive.specs.declared.IncludeLine.{IncludeLine}
 
 -- `<n>` "read raw to its `>`": where that stands on the same line, and 2 if a byte before it is illegal
-unfoldable pub raw_from : Bool → ℕ → List ℕ → Raw
-raw_from ok i [] = Open
+unfoldable pub raw_from : Bool → ℕ → List ℕ → Option (ℕ × ℕ)
+raw_from ok i [] = None
 raw_from ok i (x ∷ xs) =
     let r = raw_from (ok && is_legal x) (suc i) xs in
-    cond (eqb x 62) (Closed i (cond ok 0 2))
-    (cond (eqb x 10) Open
+    cond (eqb x 62) (Some (i, cond ok 0 2))
+    (cond (eqb x 10) None
     r)
 
-unfoldable pub raw_end : List ℕ → ℕ → Raw
+unfoldable pub raw_end : List ℕ → ℕ → Option (ℕ × ℕ)
 raw_end s i = raw_from true i (drop i s)
 
 -- what bars the line, the file's name, the directive's end, whether "other text" stands behind it
@@ -44,9 +42,9 @@ unfoldable pub behind_at : List ℕ → FileName → ℕ → Fault → IncludeLi
 behind_at s n e f = behind s n e f false (tokens in_file s e)
 
 -- `<`, which ends at e and starts the line's first word; without a `>` a token that is no name
-abbrev pub angled_by : List ℕ → ℕ → ℕ → Fault → Raw → IncludeLine
-angled_by s i e f (Closed x n) = behind_at s (Angled e x) (x + 1) (worse_of f (fault n i))
-angled_by s i e f Open = behind_at s Unnamed e f
+abbrev pub angled_by : List ℕ → ℕ → ℕ → Fault → Option (ℕ × ℕ) → IncludeLine
+angled_by s i e f (Some (x, n)) = behind_at s (Angled e x) (x + 1) (worse_of f (fault n i))
+angled_by s i e f None = behind_at s Unnamed e f
 
 -- the line whose first word is the token t; f: what bars what stands before it
 unfoldable pub name_at : List ℕ → Token → Fault → IncludeLine

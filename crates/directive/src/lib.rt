@@ -80,13 +80,6 @@ pub enum Time {
     Barred(usize, usize),
 }
 
-// Where a raw file name's `>` stands, and the refusal of a byte before it, or 0.
-#[derive(Clone, Copy)]
-pub enum Raw {
-    Closed(usize, usize),
-    Open,
-}
-
 // The name of an included file: from, end.
 #[derive(Clone, Copy)]
 pub enum FileName {
@@ -323,25 +316,23 @@ fn entry_form(d: usize, s: &[u8], at: usize) -> Read
     }
 }
 
-// A raw file name from `at` to its `>`.
-fn scan_raw(s: &[u8], at: usize) -> Raw
+// A raw file name from `at` on: where its `>` stands on the line, and the refusal of a byte before it, or 0.
+fn scan_raw(s: &[u8], at: usize) -> Option<(usize, usize)>
     ensures { result ≡ raw_end s.now at }
 {
-    let mut i = at;
     let mut ok = true;
-    while i < s.len() {
+    for i in at..s.len() {
         let b = s[i];
         if b == 62 {
             let r = scan_at(i, ok, 0);
-            return Raw::Closed(i, r.bar);
+            return Some((i, r.bar));
         }
         if b == 10 {
-            return Raw::Open;
+            return None;
         }
         ok = ok & is_legal(b);
-        i += 1;
     }
-    Raw::Open
+    None
 }
 
 fn make_line(bars: Fault, file: FileName, end: usize, other: bool) -> IncludeLine
@@ -385,7 +376,7 @@ fn line_of(s: &[u8], t: Token, f: Fault) -> IncludeLine
     if is_byte(s, t, 60) {
         let raw = scan_raw(s, t.end);
         match raw {
-            Raw::Closed(e, n) => {
+            Some((e, n)) => {
                 return line_behind(
                     s,
                     FileName::Angled(t.end, e),
@@ -399,7 +390,7 @@ fn line_of(s: &[u8], t: Token, f: Fault) -> IncludeLine
                     ),
                 );
             }
-            Raw::Open => {
+            None => {
                 return line_behind(s, FileName::Unnamed, t.end, f);
             }
         }

@@ -11,7 +11,7 @@ use lib.Dec.{leb, ltb}
 use lib.ListN.{length, take, drop, get_or, replicate, length-append, length-replicate, take-append-drop}
 use lib.Seq.{take_at, drop_at}
 use Rattle.text.specs.Order.{order_of}
-use Rattle.text.specs.declared.Order.TheVariants.{Less}
+use Rattle.std.specs.declared.cmp.Ordering.TheVariants.{Less}
 use Rattle.lex.proofs.Tests.{and_left, and_right}
 use Rattle.definition.specs.Definitions.{Macro}
 use Rattle.form.specs.Forms.{form_of, text_start}

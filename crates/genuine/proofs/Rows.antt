@@ -12,8 +12,8 @@ use lib.ListN.{length, take, drop, get_or, length-append}
 use lib.Seq.{take-take}
 use Rattle.text.specs.Bytes.{part}
 use Rattle.text.specs.Order.{order_of}
-use Rattle.text.specs.declared.Order.{Order}
-use Rattle.text.specs.declared.Order.TheVariants.{Less, Equal, Greater}
+use Rattle.std.specs.declared.cmp.Ordering.{Ordering}
+use Rattle.std.specs.declared.cmp.Ordering.TheVariants.{Less, Equal, Greater}
 use Rattle.lex.proofs.Tests.{and_left, and_right}
 use Rattle.definition.specs.Definitions.{Parameter, Macro, macro}
 use Rattle.form.specs.Forms.{parameter_forms, list_form, head_form, form_of, text_start}
@@ -27,7 +27,7 @@ use Rattle.genuine.proofs.Lying.{Lies, lies_front, lies_back, lies_both, lies_pa
 use Rattle.genuine.proofs.Blanks.{four}
 use Rattle.genuine.proofs.Formals.{Formals, formals-fit, formals_read}
 
-pub less : (o : Order) → is_less o ≡ true → o ≡ Less
+pub less : (o : Ordering) → is_less o ≡ true → o ≡ Less
 less Less h = refl
 less Equal h = cc
 less Greater h = cc

@@ -9,15 +9,15 @@ use lib.ListN.{length, drop, get_or, length-take, length-drop}
 use borrow.Author.Tests.{eq-eqb, ne_eqb, le-leb, lt-leb}
 use Rattle.text.specs.Bytes.{part}
 use Rattle.text.specs.Order.{order_of}
-use Rattle.text.specs.declared.Order.{Order}
-use Rattle.text.specs.declared.Order.TheVariants.{Less, Equal, Greater}
+use Rattle.std.specs.declared.cmp.Ordering.{Ordering}
+use Rattle.std.specs.declared.cmp.Ordering.TheVariants.{Less, Equal, Greater}
 use Rattle.packed.specs.declared.Record.{Record}
 use Rattle.genuine.specs.Fitness.{fit_name, fit_stored}
 use Rattle.genuine.specs.Layout.{formals_fit, is_less, name_in, body_fits, entry_fits}
 use Rattle.genuine.proofs.Testing.{no, yes}
 
 -- the answers to an order
-module _ (w v : List ℕ) {o : Order} (e : o ≡ order_of w v) where
+module _ (w v : List ℕ) {o : Ordering} (e : o ≡ order_of w v) where
   order_told : is_less o ≡ is_less (order_of w v)
   order_told = ap is_less e
 

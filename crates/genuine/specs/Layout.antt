@@ -4,8 +4,8 @@
 use Rattle.std.specs.Prelude.{ℕ, zero, suc, ◌+◌, Bool, true, false, cond, not, ◌&&◌, List, [], ◌∷◌, eqb, leb, ltb, length, get_or, drop}
 use Rattle.text.specs.Bytes.{same, part, two_at}
 use Rattle.text.specs.Order.{order_of}
-use Rattle.text.specs.declared.Order.{Order}
-use Rattle.text.specs.declared.Order.TheVariants.{Less, Equal, Greater}
+use Rattle.std.specs.declared.cmp.Ordering.{Ordering}
+use Rattle.std.specs.declared.cmp.Ordering.TheVariants.{Less, Equal, Greater}
 use Rattle.packed.specs.Records.{record_of}
 use Rattle.packed.specs.declared.Record.{Record}
 use Rattle.genuine.specs.Fitness.{fit_name, fit_formal, fit_stored}
@@ -48,7 +48,7 @@ unfoldable pub formals_fit : ℕ → List ℕ → ℕ → ℕ → Bool
 formals_fit zero b i e = eqb i e
 formals_fit (suc c) b i e = formal_fits c b i e && formals_fit c b (formal_end b i) e
 
-abbrev pub is_less : Order → Bool
+abbrev pub is_less : Ordering → Bool
 is_less Less = true
 is_less Equal = false
 is_less Greater = false

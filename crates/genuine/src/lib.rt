@@ -14,7 +14,8 @@ use judging::judge_whole;
 use lex::{is_run, is_space, is_start};
 use names::directive_of;
 use packed::{Record, read};
-use text::{Order, compare, part_of, peek, same, two_at};
+use std::cmp::Ordering;
+use text::{compare, part_of, peek, same, two_at};
 
 // The number of macros that a store holds, or that no definitions leave it.
 #[derive(Clone, Copy)]
@@ -226,9 +227,9 @@ fn is_before(w: &[u8], v: &[u8]) -> bool
 {
     let o = compare(w, v);
     match o {
-        Order::Less => true,
-        Order::Equal => false,
-        Order::Greater => false,
+        Ordering::Less => true,
+        Ordering::Equal => false,
+        Ordering::Greater => false,
     }
 }
 

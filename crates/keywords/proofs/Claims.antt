@@ -12,7 +12,7 @@ use lib.ListN.{length, replicate}
 use borrow.Author.Tests.{leb-true, le-leb}
 use Rattle.text.specs.Bytes.{bytes, same}
 use Rattle.text.specs.Order.{order_of}
-use Rattle.text.specs.declared.Order.TheVariants.{Less}
+use Rattle.std.specs.declared.cmp.Ordering.TheVariants.{Less}
 use Rattle.text.proofs.Matching.{same_equal}
 use Rattle.keywords.specs.Keywords.{Keyword, word, first, keywords, word_at, reserved_in, is_reserved}
 use Rattle.keywords.proofs.Places.{word_of, first_of}

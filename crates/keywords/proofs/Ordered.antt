@@ -8,13 +8,13 @@ use native.Mathlib.Nat.{not-suc-le-zero, le_of_suc-le-suc}
 use lib.ListN.{length}
 use Rattle.text.specs.Bytes.{bytes}
 use Rattle.text.specs.Order.{order_of}
-use Rattle.text.specs.declared.Order.{Order}
-use Rattle.text.specs.declared.Order.TheVariants.{Less, Equal, Greater}
+use Rattle.std.specs.declared.cmp.Ordering.{Ordering}
+use Rattle.std.specs.declared.cmp.Ordering.TheVariants.{Less, Equal, Greater}
 use Rattle.text.proofs.Comparing.{order_trans}
 use Rattle.keywords.specs.Keywords.{Keyword, word, keywords, word_at}
 use Rattle.keywords.proofs.Places.{word_of}
 
-abbrev pub is_less : Order → Bool
+abbrev pub is_less : Ordering → Bool
 is_less Less = true
 is_less Equal = false
 is_less Greater = false
@@ -33,7 +33,7 @@ pub table_ascends : ascending keywords ≡ true
 unfolding ascending keywords bytes order_of
 table_ascends = refl
 
-less_true : (o : Order) → is_less o ≡ true → o ≡ Less
+less_true : (o : Ordering) → is_less o ≡ true → o ≡ Less
 less_true Less e = refl
 less_true Equal e = cc
 less_true Greater e = cc

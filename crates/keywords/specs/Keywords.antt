@@ -1,7 +1,7 @@
 -- The reserved words (000, with IEEE's spelling), each with the first version that has it: 0 for 1364-1995, 1 for
 -- 1364-2001, 2 for 1364-2005, 3 for 1800-2005.
 -- Assumes nothing.
-use Rattle.std.specs.Prelude.{Bool, true, false, cond, ◌&&◌, List, [], ◌∷◌, ℕ, leb, get_or}
+use Rattle.std.specs.Prelude.{Bool, false, cond, List, [], ◌∷◌, ℕ, leb, get_or}
 use Prim.Native.String.{String}
 use Rattle.text.specs.Bytes.{bytes, same}
 

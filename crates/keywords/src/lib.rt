@@ -84,12 +84,10 @@ pub fn is_reserved(
     if (stretch.longest as usize) < word.len() {
         return false;
     }
-    let mut k = stretch.from as usize;
-    while k < stretch.end as usize {
+    for k in stretch.from as usize..stretch.end as usize {
         if is_word(bytes, starts, word, k) {
             return firsts[k] <= version;
         }
-        k += 1;
     }
     false
 }

@@ -1,6 +1,6 @@
 -- Refusals with their places, as a definition or an include's line is looked through whole.
 -- Assumes nothing.
-use Rattle.std.specs.Prelude.{ℕ, Bool, cond, List, [], ◌∷◌, ◌≡◌, eqb, ltb}
+use Rattle.std.specs.Prelude.{ℕ, cond, List, [], ◌∷◌, ◌≡◌, eqb, ltb}
 use Rattle.lex.specs.declared.Fault.{Fault}
 use Rattle.lex.specs.declared.Token.{Token}
 

@@ -153,23 +153,20 @@ pub fn scan_at(end: usize, ok: bool, bar: usize) -> Scan
 fn run(s: &[u8], at: usize, more: u8) -> usize
     ensures { result ≡ run_end more s.now at }
 {
-    let mut i = at;
-    while i < s.len() {
+    for i in at..s.len() {
         if !is_run(more, s[i]) {
             return i;
         }
-        i += 1;
     }
-    i
+    at.max(s.len())
 }
 
 // The rest of a line, or with `solid` of an escaped name; with `stops` up to a `\` just before a newline.
 fn scan_span(s: &[u8], at: usize, solid: bool, stops: bool) -> Scan
     ensures { result ≡ span_end solid stops s.now at }
 {
-    let mut i = at;
     let mut ok = true;
-    while i < s.len() {
+    for i in at..s.len() {
         let b = s[i];
         if !is_span(solid, b) {
             return scan_at(i, ok, 0);
@@ -178,24 +175,21 @@ fn scan_span(s: &[u8], at: usize, solid: bool, stops: bool) -> Scan
             return scan_at(i, ok, 0);
         }
         ok = ok & is_legal(b);
-        i += 1;
     }
-    scan_at(i, ok, 0)
+    scan_at(at.max(s.len()), ok, 0)
 }
 
 // A string's text from `at` to past its closing `"`.
 fn scan_string(s: &[u8], at: usize) -> Scan
     ensures { result ≡ string_end s.now at }
 {
-    let mut i = at;
     let mut escaped = false;
     let mut ok = true;
-    while i < s.len() {
+    for i in at..s.len() {
         let b = s[i];
         if escaped {
             ok = ok & is_legal(b);
             escaped = false;
-            i += 1;
             continue;
         }
         if b == 34 {
@@ -206,28 +200,25 @@ fn scan_string(s: &[u8], at: usize) -> Scan
         }
         ok = ok & is_legal(b);
         escaped = b == 92;
-        i += 1;
     }
-    scan_at(i, ok, 3)
+    scan_at(at.max(s.len()), ok, 3)
 }
 
 // A block comment's text from `at` to past its `*/`.
 fn scan_block(s: &[u8], at: usize) -> Scan
     ensures { result ≡ block_end s.now at }
 {
-    let mut i = at;
     let mut star = false;
     let mut ok = true;
-    while i < s.len() {
+    for i in at..s.len() {
         let b = s[i];
         if star & (b == 47) {
             return scan_at(i + 1, ok, 0);
         }
         ok = ok & is_legal(b);
         star = b == 42;
-        i += 1;
     }
-    scan_at(i, ok, 3)
+    scan_at(at.max(s.len()), ok, 3)
 }
 
 fn plain(kind: usize, at: usize, end: usize, bar: usize) -> Token

@@ -9,8 +9,9 @@ use lib.ListN.{length, length-append}
 use lib.Seq.{take-length, drop-length}
 use borrow.Author.Tests.{le-leb}
 use Rattle.text.specs.Order.{order_of}
-use Rattle.text.specs.declared.Order.TheVariants.{Less}
-use Rattle.text.proofs.Comparing.{turned, order_turned, order_trans}
+use Rattle.std.specs.declared.cmp.Ordering.TheVariants.{Less}
+use Rattle.std.specs.Ordering.{ordering_reverse}
+use Rattle.text.proofs.Comparing.{order_turned, order_trans}
 use Rattle.lex.proofs.Tests.{and_left, and_right}
 use Rattle.definition.specs.Definitions.{Macro}
 use Rattle.store.specs.Stores.{macro_name, Below, Ascending, define, encode, fits}
@@ -31,7 +32,7 @@ below_behind w (x ∷ a) m b h s = order_trans w (macro_name x) (macro_name m) h
 belongs_last : (a : List Macro) (m : Macro) (b : List Macro) → Ascending (a ++ m ∷ b) → Belongs (macro_name m) a (length a)
 belongs_last [] m b s = tt
 belongs_last (x ∷ a) m b s =
-    (order_turned (macro_name x) (macro_name m) ∙ ap turned (below_behind (macro_name x) a m b s.0 s.1), belongs_last a m b s.1)
+    (order_turned (macro_name x) (macro_name m) ∙ ap ordering_reverse (below_behind (macro_name x) a m b s.0 s.1), belongs_last a m b s.1)
 
 define_last : (a : List Macro) (m : Macro) (b : List Macro) → Ascending (a ++ m ∷ b) → define m a ≡ a ++ (m ∷ [])
 define_last a m b s =

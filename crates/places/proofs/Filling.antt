@@ -1,66 +1,45 @@
--- The loops that count newlines and copy a name, and the digits of a number behind one another.
+-- Counting newlines, copying a name, and the digits of a number behind one another.
 -- Assumes nothing.
 use Prim.Native.Nat.{ℕ, zero, suc, ◌+◌, ◌-◌, ◌/◌, ◌%◌, ◌<◌, ◌≤◌}
+use mathlib.Core.Bool.{Bool, true, false, cond}
 use mathlib.Core.List.{List, [], ◌∷◌, ◌++◌}
-use mathlib.Core.Path.{◌≡◌, refl, ap, ◌∙◌}
+use mathlib.Core.Path.{◌≡◌, refl, ap, sym, ◌∙◌}
 use native.Mathlib.Numerals.{add-one}
 use native.Mathlib.Omega.{arith}
-use lib.ListN.{length, get_or, take, drop, set, length-set}
-use lib.Seq.{take-suc, take-suc-set, take-length}
+use lib.ListN.{length, take, set, length-set}
+use lib.Seq.{take-suc-set}
+use lib.Dec.{eqb}
 use borrow.Author.Tests.{lt-ltb, le-ltb}
+use borrow.Rule.Slice.PartMut.{put_mid, mid_of, mid_len, same_len_mid}
+use Rattle.std.specs.List.{count_by}
+use Rattle.std.proofs.lemmas.List.Recursion.{is_count_by}
+use Rattle.std.proofs.lemmas.Grind.{take-set_at}
+use Rattle.std.proofs.lemmas.Slice.{take-put_mid}
 use Rattle.places.specs.Places.{newlines, quoted, decimal}
-use Rattle.places.proofs.Lines.{newline_at, other_at, newlines_out}
 
--- ---- counting newlines: n before i, and those from i on are to come
+-- ---- counting newlines
 
-pub record Counted (w : List ℕ) (i n : ℕ) : Type 0 where
-  pub whole : n + newlines (drop i w) ≡ newlines w
-  pub most : n ≤ i
-  pub inside : i ≤ length w
+one_more : (t : Bool) (r : ℕ) → cond t (suc r) r ≡ cond t (1 + r) r
+one_more true r = omega arith
+one_more false r = refl
 
-pub counted_none : (w : List ℕ) → Counted w 0 0
-counted_none w = record { whole = omega arith; most = omega arith; inside = omega arith }
+pub newlines_counted : (w : List ℕ) → newlines w ≡ count_by (λ b. eqb b 10) w
+unfolding newlines
+newlines_counted = is_count_by newlines (λ b. eqb b 10) refl (λ b w. one_more (eqb b 10) (newlines w))
 
-module _ {w : List ℕ} {i n : ℕ} (r : Counted w i n) where
-  module _ (h : i < length w) where
-    pub counted_newline : get_or w i 0 ≡ 10 → Counted w (i + 1) (n + 1)
-    counted_newline e = record { whole = omega (arith, r.whole, newline_at w i h e); most = omega (arith, r.most); inside = omega arith }
+-- ---- copying a name between two quotes
 
-    pub counted_other : (get_or w i 0 ≡ 10 → ⊥) → Counted w (i + 1) n
-    counted_other e = record { whole = omega (arith, r.whole, other_at w i h e); most = omega (arith, r.most); inside = omega arith }
-
-  pub counted_all : length w ≤ i → (n ≡ newlines w) × (n ≤ length w)
-  counted_all h = (omega (arith, r.whole, newlines_out w i h), omega (arith, r.most, r.inside))
-
--- ---- copying a name behind a quote: the bytes before i are copied
-
-pub record Copied (w out₀ out : List ℕ) (i : ℕ) : Type 0 where
-  pub front : take (i + 1) out ≡ 34 ∷ take i w
-  pub size : length out ≡ length out₀
-  pub room : length w + 2 ≤ length out₀
-  pub inside : i ≤ length w
-
-pub copied_none : (w out : List ℕ) → length w + 2 ≤ length out → Copied w (set out 0 34) (set out 0 34) 0
-copied_none w out h = record { front = take-suc-set out 0 34 (omega arith); size = refl; room = omega (arith, length-set out 0 34); inside = omega arith }
-
-module _ {w out₀ out : List ℕ} {i : ℕ} (r : Copied w out₀ out i) where
-  copied_front : (b : ℕ) → take (suc (i + 1)) (set out (i + 1) b) ≡ 34 ∷ (take i w ++ (b ∷ []))
-  copied_front b = take-suc-set out (i + 1) b (omega (arith, r.size, r.room, r.inside)) ∙ ap (λ (l : List ℕ). l ++ (b ∷ [])) r.front
-
-  pub copied_next : i < length w → Copied w out₀ (set out (i + 1) (get_or w i 0)) (i + 1)
-  copied_next h =
-      record {
-        front = rw (add-one (i + 1)) (copied_front (get_or w i 0) ∙ rw (add-one i, take-suc w i 0));
-        size = length-set out (i + 1) (get_or w i 0) ∙ r.size;
-        room = r.room;
-        inside = omega arith;
-      }
-
-  pub copied_all : length w ≤ i → (take (i + 2) (set out (i + 1) 34) ≡ quoted w) × (i + 2 ≡ length w + 2)
-  copied_all h =
-      let q : i ≡ length w = omega (arith, r.inside) in
-      let n : i + 2 ≡ suc (i + 1) = omega arith in
-      (ap (λ (m : ℕ). take m (set out (i + 1) 34)) n ∙ copied_front 34 ∙ rw (q, take-length w), omega arith)
+pub quoted_by : (w out x : List ℕ) (n : ℕ) → length w + 2 ≤ length out → x ≡ w → n ≡ length w
+    → take (n + 2) (set (put_mid 1 (n + 1 - 1) (set out 0 34) x) (n + 1) 34) ≡ quoted w
+quoted_by w out x n h e q =
+    let o : List ℕ = set out 0 34 in
+    let l : length o ≡ length out = length-set out 0 34 in
+    let i : length x ≡ n = ap length e ∙ sym q in
+    let m : length x ≡ length (mid_of 1 (n + 1 - 1) o) = omega (arith, mid_len 1 (n + 1) o (omega arith)) in
+    let size : length (put_mid 1 (n + 1 - 1) o x) ≡ length o = same_len_mid 1 (n + 1 - 1) o x m in
+    take-set_at (put_mid 1 (n + 1 - 1) o x) (n + 1) (n + 2) 34 (omega arith) (omega arith)
+    ∙ ap (λ s. s ++ (34 ∷ [])) (take-put_mid 1 (n + 1 - 1) o x (n + 1) (omega arith) (omega arith) ∙ ap (λ s. s ++ x) (take-set_at out 0 1 34 refl (omega arith)))
+    ∙ rw e
 
 -- ---- digits
 

@@ -1,15 +1,13 @@
 -- Laws of newlines, lines, and the lengths of what the two `__` words write.
 -- Assumes nothing.
-use Prim.Native.Nat.{ℕ, zero, suc, ◌+◌, ◌-◌, ◌/◌, ◌<◌, ◌≤◌}
+use Prim.Native.Nat.{ℕ, zero, suc, ◌+◌, ◌-◌, ◌/◌, ◌≤◌}
 use mathlib.Core.Bool.{Bool, true, false, cond}
 use mathlib.Core.List.{List, [], ◌∷◌, ◌++◌}
 use mathlib.Core.Path.{◌≡◌, refl, ap, ◌∙◌}
-use native.Mathlib.Numerals.{add-one}
 use native.Mathlib.Omega.{arith}
 use lib.Dec.{eqb, ltb}
-use lib.ListN.{length, get_or, take, drop, length-append, length-take, drop_of_length-le}
-use lib.Seq.{drop-cons, take-add}
-use borrow.Author.Tests.{eq-eqb, ne_eqb}
+use lib.ListN.{length, take, length-append, length-take}
+use lib.Seq.{take-add}
 use Rattle.text.specs.Bytes.{part}
 use Rattle.places.specs.Places.{newlines, line_at, quoted, decimal}
 
@@ -36,21 +34,6 @@ pub newlines_length : (w : List ℕ) → newlines w ≤ length w
 unfolding newlines
 newlines_length [] = omega arith
 newlines_length (b ∷ bs) = at_most (eqb b 10) _ _ (newlines_length bs)
-
--- the newlines from i on, by the byte at i
-module _ (w : List ℕ) (i : ℕ) (h : i < length w) where
-  drop_next : drop i w ≡ get_or w i 0 ∷ drop (i + 1) w
-  drop_next = rw (add-one, drop-cons w i 0)
-
-  pub newline_at : get_or w i 0 ≡ 10 → newlines (drop i w) ≡ suc (newlines (drop (i + 1) w))
-  newline_at e = ap newlines drop_next ∙ newlines_cons _ _ ∙ rw (eq-eqb _ _ e)
-
-  pub other_at : (get_or w i 0 ≡ 10 → ⊥) → newlines (drop i w) ≡ newlines (drop (i + 1) w)
-  other_at e = ap newlines drop_next ∙ newlines_cons _ _ ∙ rw (ne_eqb _ _ e)
-
-pub newlines_out : (w : List ℕ) (i : ℕ) → length w ≤ i → newlines (drop i w) ≡ 0
-unfolding newlines
-newlines_out w i h = rw (drop_of_length-le w h)
 
 -- ---- lines
 

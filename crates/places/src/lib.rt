@@ -6,19 +6,15 @@ ghost use Rattle.places.specs.Places.{newlines, line_at, place_of, quoted, decim
 
 use text::part_of;
 
-// How many newlines are among the bytes.
+// How many newlines are among the bytes. A `for`: with `filter` and `count` a long comment took a quarter more instructions.
 pub fn newlines_in(w: &[u8]) -> usize
     ensures { (result ≡ newlines w.now) × (result ≤ length w.now) }
 {
-    let mut i = 0;
     let mut n = 0;
-    while i < w.len() {
-        if w[i] == 10 {
+    for &b in w {
+        if b == 10 {
             n += 1;
-            i += 1;
-            continue;
         }
-        i += 1;
     }
     n
 }
@@ -43,14 +39,11 @@ pub fn quote(w: &[u8], out: &mut [u8]) -> usize
     requires { length w.now + 2 ≤ length out.old }
     ensures { (take result out.new ≡ quoted w.now) × (result ≡ length w.now + 2) }
 {
+    let n = w.len();
     out[0] = 34;
-    let mut i = 0;
-    while i < w.len() {
-        out[i + 1] = w[i];
-        i += 1;
-    }
-    out[i + 1] = 34;
-    i + 2
+    out[1..n + 1].copy_from_slice(w);
+    out[n + 1] = 34;
+    n + 2
 }
 
 // The last `k` digits of a number, without zeros before, at the front of `out`; how many.

@@ -71,32 +71,24 @@ pub fn insert(s: MacroSet, i: u64) -> MacroSet
     if i < 64 {
         return MacroSet {
             w0: with_bit(s.w0, k),
-            w1: s.w1,
-            w2: s.w2,
-            w3: s.w3,
+            ..s
         };
     }
     if i < 128 {
         return MacroSet {
-            w0: s.w0,
             w1: with_bit(s.w1, k),
-            w2: s.w2,
-            w3: s.w3,
+            ..s
         };
     }
     if i < 192 {
         return MacroSet {
-            w0: s.w0,
-            w1: s.w1,
             w2: with_bit(s.w2, k),
-            w3: s.w3,
+            ..s
         };
     }
     MacroSet {
-        w0: s.w0,
-        w1: s.w1,
-        w2: s.w2,
         w3: with_bit(s.w3, k),
+        ..s
     }
 }
 
@@ -104,5 +96,5 @@ pub fn insert(s: MacroSet, i: u64) -> MacroSet
 pub fn size(s: MacroSet) -> u32
     ensures { result ≡ length (members s) }
 {
-    u64::count_ones(s.w0) + u64::count_ones(s.w1) + u64::count_ones(s.w2) + u64::count_ones(s.w3)
+    s.w0.count_ones() + s.w1.count_ones() + s.w2.count_ones() + s.w3.count_ones()
 }

@@ -9,7 +9,7 @@ use lib.ListN.{length, take, drop, get_or, replicate, length-append, length-repl
 use lib.Seq.{split_at, drop_at, take_at, get_or_at, length-take-le, take-append-le, drop-cons, take-suc}
 use Rattle.text.specs.Bytes.{part}
 use Rattle.text.specs.Order.{order_of}
-use Rattle.text.specs.declared.Order.{Order}
+use Rattle.std.specs.declared.cmp.Ordering.{Ordering}
 use Rattle.definition.specs.Definitions.{Macro, macro}
 use Rattle.form.specs.Forms.{list_form, head_form, form_of, text_start}
 use Rattle.packed.specs.Records.{blank_record, record_of, RecordIs}
@@ -186,7 +186,7 @@ end_is {ms} {b} {r} {n} {q} h i p l k =
 -- ---- the search
 
 -- macro i decides, by the order o of the name to its own, or the rest does
-pub found_step : (w : List ℕ) (ms : List Macro) (i : ℕ) (o : Order) → i < length ms → o ≡ order_of w (macro_name (macro_at ms i))
+pub found_step : (w : List ℕ) (ms : List Macro) (i : ℕ) (o : Ordering) → i < length ms → o ≡ order_of w (macro_name (macro_at ms i))
     → find_from i w (drop i ms) ≡ place_by o i (find_from (i + 1) w (drop (i + 1) ms))
 unfolding find_from
 found_step w ms i o h e = rw (drop-cons ms i no_macro, add-one, e)
@@ -196,8 +196,8 @@ unfolding find_from
 found_end w ms i h = rw (drop_of_length-le ms)
 
 -- a turn of the search, where the name's order to that of macro i is o
-module _ (w : List ℕ) {b : List ℕ} {r : List (List ℕ)} {n i : ℕ} {p : Order} (l : i < n)
+module _ (w : List ℕ) {b : List ℕ} {r : List (List ℕ)} {n i : ℕ} {p : Ordering} (l : i < n)
     (inv : (ms : List Macro) → Holds ms b r n → find_from i w (drop i ms) ≡ find w ms)
     (e : (ms : List Macro) → Holds ms b r n → p ≡ order_of w (macro_name (macro_at ms i))) where
-  pub turn : (o : Order) → p ≡ o → (ms : List Macro) → Holds ms b r n → place_by o i (find_from (i + 1) w (drop (i + 1) ms)) ≡ find w ms
+  pub turn : (o : Ordering) → p ≡ o → (ms : List Macro) → Holds ms b r n → place_by o i (find_from (i + 1) w (drop (i + 1) ms)) ≡ find w ms
   turn o f ms h = sym (found_step w ms i o (omega (arith, h.count)) (sym f ∙ e ms h)) ∙ inv ms h

@@ -7,9 +7,10 @@ use native.Mathlib.Nat.{not-suc-le-zero, le_of_suc-le-suc}
 use native.Mathlib.Omega.{arith}
 use lib.ListN.{length, take, drop}
 use Rattle.text.specs.Order.{order_of}
-use Rattle.text.specs.declared.Order.{Order}
-use Rattle.text.specs.declared.Order.TheVariants.{Less, Equal, Greater}
-use Rattle.text.proofs.Comparing.{turned, is_equal, order_turned, order_equal, order_trans}
+use Rattle.std.specs.declared.cmp.Ordering.{Ordering}
+use Rattle.std.specs.declared.cmp.Ordering.TheVariants.{Less, Equal, Greater}
+use Rattle.std.specs.Ordering.{ordering_reverse, is_eq}
+use Rattle.text.proofs.Comparing.{order_turned, order_equal, order_trans}
 use Rattle.definition.specs.Definitions.{Macro}
 use Rattle.store.specs.declared.Found.{Found}
 use Rattle.store.specs.declared.Found.TheVariants.{At, Missing}
@@ -33,7 +34,7 @@ Belongs w (m ∷ ms) (suc i) = (order_of w (macro_name m) ≡ Greater) × Belong
 
 -- ---- byte order
 
-own_order : (o : Order) → o ≡ turned o → o ≡ Equal
+own_order : (o : Ordering) → o ≡ ordering_reverse o → o ≡ Equal
 own_order Less e = cc
 own_order Equal e = refl
 own_order Greater e = cc
@@ -41,11 +42,11 @@ own_order Greater e = cc
 order_same : (w : List ℕ) → order_of w w ≡ Equal
 order_same w = own_order (order_of w w) (order_turned w w)
 
-order_back : (v w : List ℕ) {o : Order} → order_of v w ≡ o → order_of w v ≡ turned o
-order_back v w e = order_turned v w ∙ ap turned e
+order_back : (v w : List ℕ) {o : Ordering} → order_of v w ≡ o → order_of w v ≡ ordering_reverse o
+order_back v w e = order_turned v w ∙ ap ordering_reverse e
 
 -- a name in another order is another name
-apart : (v w : List ℕ) (o : Order) → order_of v w ≡ o → is_equal o ≡ false → w ≡ v → ⊥
+apart : (v w : List ℕ) (o : Ordering) → order_of v w ≡ o → is_eq o ≡ false → w ≡ v → ⊥
 apart v w o e f q =
     let s = order_same v in
     let n : true ≡ false = cc in
@@ -58,7 +59,7 @@ abbrev next : Found → Found
 next (At i) = At (suc i)
 next (Missing i) = Missing (suc i)
 
-next_by : (o : Order) (k : ℕ) (f g : Found) → f ≡ next g → place_by o (suc k) f ≡ next (place_by o k g)
+next_by : (o : Ordering) (k : ℕ) (f g : Found) → f ≡ next g → place_by o (suc k) f ≡ next (place_by o k g)
 next_by Less k f g e = refl
 next_by Equal k f g e = refl
 next_by Greater k f g e = e
@@ -83,7 +84,7 @@ judged_past : (f : Found) (w : List ℕ) (m : Macro) (ms : List Macro) → order
 judged_past (At i) w m ms e j = (e, j)
 judged_past (Missing i) w m ms e j = (e, j)
 
-judged-by : (o : Order) (f g : Found) (w : List ℕ) (m : Macro) (ms : List Macro) → order_of w (macro_name m) ≡ o → g ≡ next f
+judged-by : (o : Ordering) (f g : Found) (w : List ℕ) (m : Macro) (ms : List Macro) → order_of w (macro_name m) ≡ o → g ≡ next f
     → Judged f w ms → Judged (place_by o 0 g) w (m ∷ ms)
 judged-by Less f g w m ms e q j = e
 judged-by Equal f g w m ms e q j = e

@@ -2,8 +2,8 @@
 -- Assumes nothing.
 use Rattle.std.specs.Prelude.{ℕ, suc, Bool, true, false, ◌&&◌, ◌≡◌, List, [], ◌∷◌, ◌++◌, leb, length, take, drop, get_or}
 use Rattle.text.specs.Order.{order_of}
-use Rattle.text.specs.declared.Order.{Order}
-use Rattle.text.specs.declared.Order.TheVariants.{Less, Equal, Greater}
+use Rattle.std.specs.declared.cmp.Ordering.{Ordering}
+use Rattle.std.specs.declared.cmp.Ordering.TheVariants.{Less, Equal, Greater}
 use Rattle.definition.specs.Definitions.{Macro, macro}
 use Rattle.form.specs.Forms.{form_of}
 use Rattle.store.specs.declared.Found.{Found}
@@ -33,7 +33,7 @@ Ascending [] = Unit {0}
 Ascending (m ∷ ms) = Below (macro_name m) ms × Ascending ms
 
 -- where a name stands or belongs, by its order to the name at k and its place in the rest
-abbrev pub place_by : Order → ℕ → Found → Found
+abbrev pub place_by : Ordering → ℕ → Found → Found
 place_by Less k f = Missing k
 place_by Equal k f = At k
 place_by Greater k f = f

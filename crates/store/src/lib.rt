@@ -11,7 +11,8 @@ ghost use Rattle.store.specs.Stores.{find as findName, define as defineMacro, un
 ghost use Rattle.store.specs.Buffers.{Holds, Stored, FormIs, Lent, Inserts, Replaces, Defines};
 
 use packed::{Record, clear, clear_records, insert, read, remove, replace, shift, splice};
-use text::{Order, compare, part_of};
+use std::cmp::Ordering;
+use text::{compare, part_of};
 
 // Where a name stands among the macros, or where it belongs.
 #[derive(Clone, Copy)]
@@ -40,7 +41,7 @@ pub fn start_of(records: &[[u32; 4]], count: usize, i: usize) -> usize
 }
 
 // How the name `w` and the name of macro `i` stand in byte order.
-fn order_at(bytes: &[u8], records: &[[u32; 4]], count: usize, i: usize, w: &[u8]) -> Order
+fn order_at(bytes: &[u8], records: &[[u32; 4]], count: usize, i: usize, w: &[u8]) -> Ordering
     requires { i < count }
     ensures { (ms : List Macro) → Holds ms bytes.now records.now count → result ≡ order_of w.now (macro_name (macro_at ms i)) }
 {
@@ -56,13 +57,13 @@ pub fn find(bytes: &[u8], records: &[[u32; 4]], count: usize, w: &[u8]) -> Found
     while i < count {
         let o = order_at(bytes, records, count, i, w);
         match o {
-            Order::Less => {
+            Ordering::Less => {
                 return Found::Missing(i);
             }
-            Order::Equal => {
+            Ordering::Equal => {
                 return Found::At(i);
             }
-            Order::Greater => {
+            Ordering::Greater => {
                 i += 1;
                 continue;
             }

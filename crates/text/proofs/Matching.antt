@@ -1,46 +1,42 @@
--- How `begins`, `same` and `holds` go on at the next byte, and a table of words at the next word.
+-- `begins`, `same` and `holds` as tests of std, and how a part goes on at the next byte.
 -- Assumes nothing.
-use mathlib.Core.Path.{◌≡◌, refl, ap, sym, ◌∙◌}
+use mathlib.Core.Path.{◌≡◌, refl, ap, ◌∙◌}
 use mathlib.Core.Bool.{Bool, true, false, ◌&&◌}
 use mathlib.Core.List.{List, [], ◌∷◌}
-use Prim.Native.Nat.{ℕ, suc, ◌+◌, ◌-◌, ◌<◌, ◌≤◌}
+use Prim.Native.Nat.{ℕ, suc, ◌+◌, ◌-◌, ◌<◌, ◌≤◌, min}
 use native.Mathlib.Numerals.{add-one}
 use native.Mathlib.Omega.{arith}
 use lib.Dec.{eqb}
 use lib.ListN.{length, get_or, take, drop, drop_of_length-le, length-drop}
 use lib.Seq.{drop-cons, take-nil, take_all}
-use borrow.Author.Tests.{eqb-true, eq-eqb, ne_eqb}
+use borrow.Author.Tests.{eqb-true, eq-eqb}
+use Rattle.std.proofs.lemmas.List.{drop_min}
+use Rattle.std.specs.List.{list_any, starts_with}
+use Rattle.std.proofs.lemmas.Bool.Decides.{nat_tests}
+use Rattle.std.specs.Cmp.Lexicographic.{pointwise}
 use Rattle.text.specs.Bytes.{begins, same, holds, part}
 
-module _ (s w : List ℕ) (k i : ℕ) where
-  pub begins_end : length w ≤ i → begins (drop k s) (drop i w) ≡ true
-  unfolding begins
-  begins_end h = rw (drop_of_length-le w h)
+-- the three tests are those of std's slices
+pub same_std : (s w : List ℕ) → pointwise eqb s w ≡ same s w
+unfolding same
+same_std [] [] = refl
+same_std [] (b ∷ w) = refl
+same_std (a ∷ s) [] = refl
+same_std (a ∷ s) (b ∷ w) = rw (same_std s w)
 
-  pub begins_past : length s ≤ k → i < length w → begins (drop k s) (drop i w) ≡ false
-  unfolding begins
-  begins_past h l = rw (drop_of_length-le s h, drop-cons w i 0 l)
+eqb_swap : (a b : ℕ) → eqb b a ≡ eqb a b
+eqb_swap a b = grind (arith, nat_tests)
 
-  pub begins_differ : k < length s → i < length w → (get_or s k 0 ≡ get_or w i 0 → ⊥) → begins (drop k s) (drop i w) ≡ false
-  unfolding begins
-  begins_differ h l n = rw (drop-cons s k 0 h, drop-cons w i 0 l, ne_eqb (get_or s k 0) (get_or w i 0) n)
+pub begins_std : (s w : List ℕ) → starts_with eqb s w ≡ begins s w
+unfolding begins
+begins_std s [] = refl
+begins_std [] (b ∷ w) = refl
+begins_std (a ∷ s) (b ∷ w) = rw (begins_std s w, eqb_swap a b)
 
-  pub begins_next : k < length s → i < length w → get_or s k 0 ≡ get_or w i 0 → begins (drop k s) (drop i w) ≡ begins (drop (k + 1) s) (drop (i + 1) w)
-  unfolding begins
-  begins_next h l e = rw (add-one k, add-one i, drop-cons s k 0 h, drop-cons w i 0 l, eq-eqb (get_or s k 0) (get_or w i 0) e)
-
-module _ (s w : List ℕ) (i : ℕ) where
-  pub same_end : length s ≡ length w → length w ≤ i → same (drop i s) (drop i w) ≡ true
-  unfolding same
-  same_end e h = let l : length s ≤ i = omega arith in rw (drop_of_length-le s l, drop_of_length-le w h)
-
-  pub same_differ : i < length s → i < length w → (get_or s i 0 ≡ get_or w i 0 → ⊥) → same (drop i s) (drop i w) ≡ false
-  unfolding same
-  same_differ h l n = rw (drop-cons s i 0 h, drop-cons w i 0 l, ne_eqb (get_or s i 0) (get_or w i 0) n)
-
-  pub same_next : i < length s → i < length w → get_or s i 0 ≡ get_or w i 0 → same (drop i s) (drop i w) ≡ same (drop (i + 1) s) (drop (i + 1) w)
-  unfolding same
-  same_next h l e = rw (add-one i, drop-cons s i 0 h, drop-cons w i 0 l, eq-eqb (get_or s i 0) (get_or w i 0) e)
+pub holds_std : (b : ℕ) (s : List ℕ) → list_any (λ x. eqb x b) s ≡ holds b s
+unfolding holds
+holds_std b [] = refl
+holds_std b (x ∷ s) = rw (holds_std b s)
 
 -- words of two lengths differ
 pub same_length : (s w : List ℕ) → (length s ≡ length w → ⊥) → same s w ≡ false
@@ -85,25 +81,12 @@ part_none s i e h =
 pub part_out : (s : List ℕ) (i e : ℕ) → length s ≤ i → part s i e ≡ []
 part_out s i e h = rw (drop_of_length-le s h) (take-nil (e - i))
 
--- a part that reaches past the text ends with it
-pub part_cut : (s : List ℕ) (i e : ℕ) → length s ≤ e → part s i e ≡ part s i (length s)
-part_cut s i e h =
-    let long : length (drop i s) ≤ e - i = omega (arith, length-drop i s) in
-    let just : length (drop i s) ≤ length s - i = omega (arith, length-drop i s) in
-    take_all (e - i) (drop i s) long ∙ sym (take_all (length s - i) (drop i s) just)
-
-pub holds_out : (b : ℕ) (s : List ℕ) (i e : ℕ) → length s ≤ i → holds b (part s i e) ≡ false
-unfolding holds
-holds_out b s i e h = rw (part_out s i e h)
-
-pub holds_none : (b : ℕ) (s : List ℕ) (i e : ℕ) → e ≤ i → holds b (part s i e) ≡ false
-unfolding holds
-holds_none b s i e h = rw (part_none s i e h)
-
 pub holds_hit : (b : ℕ) (s : List ℕ) (i e : ℕ) → i < e → i < length s → get_or s i 0 ≡ b → holds b (part s i e) ≡ true
 unfolding holds
 holds_hit b s i e h l q = rw (part_more s i e h l, eq-eqb (get_or s i 0) b q)
 
-pub holds_miss : (b : ℕ) (s : List ℕ) (i e : ℕ) → i < e → i < length s → (get_or s i 0 ≡ b → ⊥) → holds b (part s i e) ≡ holds b (part s (i + 1) e)
-unfolding holds
-holds_miss b s i e h l q = rw (part_more s i e h l, ne_eqb (get_or s i 0) b q)
+-- the rest of a text from a cut index on
+pub rest_cut : (s : List ℕ) (a k : ℕ) → k ≡ min a (length s) → take (length s - k) (drop k s) ≡ drop a s
+rest_cut s a k e =
+    let n : length (drop k s) ≤ length s - k = omega (arith, length-drop k s) in
+    take_all (length s - k) (drop k s) n ∙ ap (λ i. drop i s) e ∙ drop_min a s

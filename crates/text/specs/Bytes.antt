@@ -1,7 +1,7 @@
 -- Byte strings and parts of a text.
 -- Assumes nothing.
 use Rattle.std.specs.Prelude.{ℕ, ◌+◌, ◌-◌, ◌*◌, Bool, true, false, ◌&&◌, ◌||◌, List, [], ◌∷◌, eqb, take, drop, get_or}
-use Prim.Native.Char.{Char, code}
+use Prim.Native.Char.{code}
 use Prim.Native.String.{String, [] as done, ◌∷◌ as char-then}
 
 -- the bytes of a text of ASCII characters

@@ -24,8 +24,7 @@ use Rattle.directive.specs.declared.Word.{Word}
 use Rattle.directive.specs.declared.Word.TheVariants as word
 use Rattle.directive.specs.declared.Time.{Time}
 use Rattle.directive.specs.declared.Time.TheVariants as time
-use Rattle.directive.specs.declared.Raw.{Raw}
-use Rattle.directive.specs.declared.Raw.TheVariants as raw
+use Rattle.std.proofs.Common.{Option, Some, None}
 use Rattle.directive.specs.declared.FileName.{FileName}
 use Rattle.directive.specs.declared.FileName.TheVariants as file
 use Rattle.directive.specs.declared.IncludeLine.{IncludeLine}
@@ -90,9 +89,9 @@ module _ (s : List ℕ) where
     TimeIn time.Unformed = Unit {0}
     TimeIn (time.Barred n p) = BarredIn s n p
 
-    RawIn : Raw → Type 0
-    RawIn (raw.Closed e n) = Inside s i (e + 1) × Barring n
-    RawIn raw.Open = Unit {0}
+    RawIn : Option (ℕ × ℕ) → Type 0
+    RawIn (Some (e, n)) = Inside s i (e + 1) × Barring n
+    RawIn None = Unit {0}
 
     record LineIn (l : IncludeLine) : Type 0 where
       ends : i ≤ length s → Inside s i l.end
@@ -212,11 +211,11 @@ module _ (s : List ℕ) where
     unfolding behind_at
     behind-at n e f p h = behind_in n e f false (tokens in_file s e) p h (tokens_in in_file e)
 
-    angled-by : (j e : ℕ) (f : Fault) (r : Raw) → j ≤ length s → Inside s i e → FaultIn s f → RawIn r → LineIn (angled_by s j e f r)
+    angled-by : (j e : ℕ) (f : Fault) (r : Option (ℕ × ℕ)) → j ≤ length s → Inside s i e → FaultIn s f → RawIn r → LineIn (angled_by s j e f r)
     unfolding RawIn
-    angled-by j e f (raw.Closed x n) l p h g =
+    angled-by j e f (Some (x, n)) l p h g =
         behind-at _ (x + 1) (worse_of f (fault n j)) g.0 (worse_in f (fault n j) h (record { bars = g.1; place_in = l }))
-    angled-by j e f raw.Open l p h g = behind-at _ e f p h
+    angled-by j e f None l p h g = behind-at _ e f p h
 
     name-at : (t : Token) (f : Fault) → Inside s i t.end → FaultIn s (fault_of t) → FaultIn s f → LineIn (name_at s t f)
     unfolding name_at raw_end

@@ -1,6 +1,6 @@
 -- What is written: bytes, each with its place; the text, the map, and the rooms for both.
 -- Assumes nothing.
-use Rattle.std.specs.Prelude.{ℕ, suc, ◌+◌, ◌-◌, Bool, cond, List, [], ◌∷◌, eqb, ltb, length}
+use Rattle.std.specs.Prelude.{ℕ, ◌+◌, ◌-◌, Bool, cond, List, [], ◌∷◌, eqb, ltb, length}
 
 -- a byte and its place as the map has it: "file number times 131,072 plus line"
 pub data Written : Type 0 where

@@ -24,15 +24,13 @@ pub enum Wrote {
 fn count_lines(w: &[u8], fresh: bool) -> usize
     ensures { result ≡ line_count fresh w.now }
 {
-    let mut i = 0;
     let mut n = 0;
     let mut f = fresh;
-    while i < w.len() {
+    for &b in w {
         if f {
             n += 1;
         }
-        f = w[i] == 10;
-        i += 1;
+        f = b == 10;
     }
     n
 }
@@ -73,14 +71,11 @@ fn write_bytes(w: &[u8], place: u32, step: u32, text: &mut [u8], map: &mut [u32]
     requires { Writable w.now place step text.old map.old z × (z.written + length w.now ≤ length text.old) × (z.lines + line_count z.fresh w.now ≤ length map.old) }
     ensures { Puts (placed step place w.now) text.old text.new map.old map.new z result }
 {
-    let mut i = 0;
     let mut p = place;
     let mut y = z;
-    while i < w.len() {
-        let b = w[i];
+    for &b in w {
         y = write_byte(b, p, text, map, y);
         p = place_after(b, p, step);
-        i += 1;
     }
     y
 }

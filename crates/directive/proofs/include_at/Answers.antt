@@ -1,6 +1,5 @@
 use mathlib.Core.Path.{refl, sym, ◌∙◌}
 use native.Mathlib.Omega.{arith}
-use Rattle.lex.specs.Tokens.{in_file}
 use Rattle.directive.specs.Include.{include_at}
 use Rattle.directive.proofs.Wording.{token_goes, token_lies}
 use Rattle.directive.proofs.Including.{include_newline, include_wrapped, include_named, include_on, include_out}

@@ -1,6 +1,5 @@
 use mathlib.Core.Path.{refl, sym, ◌∙◌}
 use native.Mathlib.Omega.{arith}
-use Rattle.lex.specs.Tokens.{in_file}
 use Rattle.directive.specs.Include.{behind_at}
 use Rattle.directive.proofs.Wording.{token_goes}
 use Rattle.directive.proofs.Including.{behind_newline, behind_wrapped, behind_on, behind_out}

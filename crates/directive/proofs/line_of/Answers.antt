@@ -9,15 +9,15 @@ use Rattle.directive.proofs.Including.{raw_inside}
 use Rattle.directive.proofs.line_of.Goals as goal
 
 pub overflow_add-e : goal.overflow_add-e
-overflow_add-e c = omega (arith, raw_inside _ _ _ _ (sym c.scan_raw-raw.ensures ∙ c.in-Closed.is) c.requires.1)
+overflow_add-e c = omega (arith, raw_inside _ _ _ _ (sym c.scan_raw-raw.ensures ∙ c.in-Some.is) c.requires.1)
 
-pub returns-in-Closed : goal.returns-in-Closed
+pub returns-in-Some : goal.returns-in-Some
 unfolding name_at
-returns-in-Closed c = simp (← c.is_byte.ensures, c.if-is_byte.true, ← c.scan_raw-raw.ensures, c.in-Closed.is, ← c.worse.ensures) c.line_behind.ensures
+returns-in-Some c = simp (← c.is_byte.ensures, c.if-is_byte.true, ← c.scan_raw-raw.ensures, c.in-Some.is, ← c.worse.ensures) c.line_behind.ensures
 
-pub returns-in-Open : goal.returns-in-Open
+pub returns-in-None : goal.returns-in-None
 unfolding name_at
-returns-in-Open c = simp (← c.is_byte.ensures, c.if-is_byte.true, ← c.scan_raw-raw.ensures, c.in-Open.is) c.line_behind-in-Open.ensures
+returns-in-None c = simp (← c.is_byte.ensures, c.if-is_byte.true, ← c.scan_raw-raw.ensures, c.in-None.is) c.line_behind-in-None.ensures
 
 pub returns-then-t-eq-STRING : goal.returns-then-t-eq-STRING
 unfolding name_at

@@ -22,9 +22,6 @@ bounds-firsts-k c = let e = c.stretch_of-stretch.ensures.in_table in omega (arit
 pub returns-then-is_word : goal.returns-then-is_word
 returns-then-is_word c = let e = c.stretch_of-stretch.ensures.in_table in found c.loop-k.invariant c.requires.its_firsts c.args.version (omega arith) (sym c.is_word.ensures ∙ c.if-is_word.true)
 
-pub overflow_add-k : goal.overflow_add-k
-overflow_add-k c = let e = c.stretch_of-stretch.ensures.in_table in omega arith
-
 pub loop-k-preserved : goal.loop-k-preserved
 loop-k-preserved c = passed_one c.loop-k.invariant (sym c.is_word.ensures ∙ c.if-is_word.false)
 

@@ -1,12 +1,11 @@
--- `places::newlines_in` meets its contract. The invariant: `n` newlines before `i`, with those from `i` on, are the newlines of the bytes.
+-- `places::newlines_in` meets its contract. The invariant: `n` newlines are among the bytes before the index.
 -- Assumes nothing.
-use Prim.Native.Nat.{◌-◌}
-use lib.ListN.{length}
-use Rattle.places.proofs.Filling.{Counted}
+use mathlib.Core.Path.{◌≡◌}
+use Prim.Native.Nat.{ℕ}
+use lib.Dec.{eqb}
+use lib.ListN.{take}
+use Rattle.std.specs.List.{count_by}
 use Rattle.places.proofs.newlines_in.Given as goal
 
-abbrev pub invariant-loop-i : goal.invariant-loop-i
-invariant-loop-i l = Counted l.w l.i l.n
-
-abbrev pub decreases-loop-i : goal.decreases-loop-i
-decreases-loop-i l = length l.w - l.i
+abbrev pub invariant-loop-b : goal.invariant-loop-b
+invariant-loop-b l = l.n ≡ count_by (λ (b : ℕ). eqb b 10) (take l.b-index l.w)

@@ -1,12 +1,7 @@
--- `writing::count_lines` meets its contract. The invariant: `n` entries before `i`, with those from `i` on, are the entries of the bytes.
+-- `writing::count_lines` meets its contract. The invariant: `n` entries before the index, with those from it on, are the entries of the bytes.
 -- Assumes nothing.
-use Prim.Native.Nat.{◌-◌}
-use lib.ListN.{length}
 use Rattle.writing.proofs.Writing.{Counted}
 use Rattle.writing.proofs.count_lines.Given as goal
 
-abbrev pub invariant-loop-i : goal.invariant-loop-i
-invariant-loop-i l = Counted l.w l.fresh l.i l.n l.f
-
-abbrev pub decreases-loop-i : goal.decreases-loop-i
-decreases-loop-i l = length l.w - l.i
+abbrev pub invariant-loop-b : goal.invariant-loop-b
+invariant-loop-b l = Counted l.w l.fresh l.b-index l.n l.f

@@ -60,7 +60,7 @@ module _ {K : ℕ → Type 0} {s o o' : List ℕ} {v : List Formal → Bool} {at
         go (Err NoRoom) h q = settled_over h refl (formal_full s i)
 
     module _ {f : Formal} (q : Some f ≡ result_ok r) where
-      formal_read : formal_at s i ≡ Ok f
+      pub formal_read : formal_at s i ≡ Ok f
       formal_read = go r h q
         where
           go : (r : Result Formal ReadError) → Settled o' (length s) (Err NoRoom) (formal_at s i) r → Some f ≡ result_ok r → formal_at s i ≡ Ok f

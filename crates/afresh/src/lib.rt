@@ -11,6 +11,7 @@ use lex::{is_base, is_digit, is_legal, is_run, is_sign, is_space, is_start, is_w
 use names::directive_of;
 use text::part_of;
 
+// The states are numbers, and no enum: the definitions of specs/States.antt, which may not change, speak of them so.
 const START: usize = 0;
 
 const WORD: usize = 1;

@@ -87,9 +87,3 @@ module _ {o o' : List ℕ} {n k : ℕ} {rest whole : List ℕ} (a : Pushing o o'
     -- or there is no room for it
     pub pushing_short : length o' < k + length ys → length o < n + length whole
     pushing_short b = rw (← a.splits) (no_room a.put a.same_length rest (rw (e, length-append) (omega arith)))
-
--- the next byte of what is put byte by byte has no room
-pub pushing_full : {o o' : List ℕ} {n k b : ℕ} {rest left whole : List ℕ} → Pushing o o' n k rest whole → rest ≡ b ∷ left
-    → ⊥ ⊎ (length o' < k + 1) → ⊥ ⊎ (length o < n + length whole)
-pushing_full a e (inl x) = absurd x
-pushing_full {b = b} {left = left} a e (inr l) = inr (pushing_short a (b ∷ []) left e l)

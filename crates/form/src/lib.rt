@@ -41,11 +41,12 @@ fn push_bytes(w: &[u8], out: &mut [u8], n: usize) -> Option<usize>
     requires { n ≤ length out.old }
     ensures { PutBy result ⊥ out.old out.new n w.now }
 {
-    let mut k = n;
-    for &b in w {
-        k = push_byte(out, k, b)?;
+    if out.len() - n < w.len() {
+        return None;
     }
-    Some(k)
+    let m = n + w.len();
+    out[n..m].copy_from_slice(w);
+    Some(m)
 }
 
 // Two bytes of length, and the bytes.

@@ -14,8 +14,7 @@ use Rattle.brackets.proofs.Stacking.{full_more}
 use Rattle.afresh.specs.States.{State, state, at, naming, longer, shorn, turned, Start, Bad}
 use Rattle.afresh.specs.Feeding.{state_of, Sound, FedBy}
 use Rattle.afresh.specs.declared.Reading.{Reading}
-use Rattle.afresh.specs.declared.Fed.{Fed}
-use Rattle.afresh.specs.declared.Fed.TheVariants as fed
+use Rattle.std.specs.Prelude.{Option, Some, None}
 
 -- the reading in another state, with a name of m bytes
 abbrev pub named : Reading → ℕ → Bool → ℕ → Reading
@@ -42,7 +41,7 @@ module _ (r : Reading) (n w : List ℕ) where
     named_sound k g m h = record { long = s.long; count = h; depth = s.depth }
 
     -- a name begun with b
-    pub fed_start : (k : ℕ) (g : Bool) (b : ℕ) → FedBy (fed.On (named r k g 1)) r 1 (naming k g (state_of r n w) b) w (set n 0 b) w
+    pub fed_start : (k : ℕ) (g : Bool) (b : ℕ) → FedBy (Some (named r k g 1)) r 1 (naming k g (state_of r n w) b) w (set n 0 b) w
     fed_start k g b = (
       ap (λ (m : List ℕ). state k r.text r.marks g m (stack_of w r.depth)) (take-suc-set n 0 b (omega arith)),
       record { long = rw (length-set n 0 b) s.long; count = omega arith; depth = s.depth },
@@ -55,7 +54,7 @@ module _ (r : Reading) (n w : List ℕ) where
       longer_full h = rw (name_length (omega arith), le-leb most r.count h)
 
       pub fed_longer : r.count < most → most ≤ 1025
-          → FedBy (fed.On (named r k r.grave (r.count + 1))) r 1 (longer most k (state_of r n w) b) w (set n r.count b) w
+          → FedBy (Some (named r k r.grave (r.count + 1))) r 1 (longer most k (state_of r n w) b) w (set n r.count b) w
       fed_longer h l = (
         rw (name_length (omega arith), lt-leb most r.count h, add-one)
             (ap (λ (m : List ℕ). state k r.text r.marks r.grave m (stack_of w r.depth)) (take-suc-set n r.count b (omega arith))),
@@ -64,37 +63,37 @@ module _ (r : Reading) (n w : List ℕ) where
       )
 
 -- read on
-pub fed_on : {f : Fed} {r' : Reading} (r : Reading) (q : State) (w n' w' : List ℕ) → f ≡ fed.On r' → state_of r' n' w' ≡ q → Sound r' n' w'
+pub fed_on : {f : Option Reading} {r' : Reading} (r : Reading) (q : State) (w n' w' : List ℕ) → f ≡ Some r' → state_of r' n' w' ≡ q → Sound r' n' w'
     → r'.depth ≤ r.depth + 1 → FedBy f r 1 q w n' w'
-fed_on r q w n' w' e h s d = subst (λ (f : Fed). FedBy f r 1 q w n' w') (sym e) (h, s, d)
+fed_on r q w n' w' e h s d = subst (λ (f : Option Reading). FedBy f r 1 q w n' w') (sym e) (h, s, d)
 
 -- in another state, without a name
-pub fed_at : {f : Fed} {r : Reading} {k : ℕ} {n w : List ℕ} → Sound r n w → f ≡ fed.On (named r k false 0)
+pub fed_at : {f : Option Reading} {r : Reading} {k : ℕ} {n w : List ℕ} → Sound r n w → f ≡ Some (named r k false 0)
     → FedBy f r 1 (at k (state_of r n w)) w n w
 fed_at {f} {r} {k} {n} {w} s e =
     fed_on r (at k (state_of r n w)) w n w e refl (named_sound r n w s k false 0 (omega arith)) (omega arith)
 
 -- past a quote mark
-pub fed_turned : {f : Fed} {r : Reading} {n w : List ℕ} → Sound r n w
-    → f ≡ fed.On (record { state = 0; text = r.text; marks = not r.marks; grave = false; count = 0; depth = r.depth })
+pub fed_turned : {f : Option Reading} {r : Reading} {n w : List ℕ} → Sound r n w
+    → f ≡ Some (record { state = 0; text = r.text; marks = not r.marks; grave = false; count = 0; depth = r.depth })
     → FedBy f r 1 (turned (state_of r n w)) w n w
 fed_turned {f} {r} {n} {w} s e =
     fed_on r (turned (state_of r n w)) w n w e refl (record { long = s.long; count = omega arith; depth = s.depth }) (omega arith)
 
 -- past a newline, by whether it stands between quote marks
-module _ {f : Fed} {r : Reading} {n w : List ℕ} (s : Sound r n w) where
-  pub fed_marked : r.marks ≡ true → f ≡ fed.On (named r 17 false 0)
+module _ {f : Option Reading} {r : Reading} {n w : List ℕ} (s : Sound r n w) where
+  pub fed_marked : r.marks ≡ true → f ≡ Some (named r 17 false 0)
       → FedBy f r 1 (cond r.marks (at Bad (state_of r n w)) (at Start (state_of r n w))) w n w
   fed_marked t e =
       subst (λ (t : Bool). FedBy f r 1 (cond t (at Bad (state_of r n w)) (at Start (state_of r n w))) w n w) (sym t) (fed_at s e)
 
-  pub fed_plain : r.marks ≡ false → f ≡ fed.On (named r 0 false 0)
+  pub fed_plain : r.marks ≡ false → f ≡ Some (named r 0 false 0)
       → FedBy f r 1 (cond r.marks (at Bad (state_of r n w)) (at Start (state_of r n w))) w n w
   fed_plain t e =
       subst (λ (t : Bool). FedBy f r 1 (cond t (at Bad (state_of r n w)) (at Start (state_of r n w))) w n w) (sym t) (fed_at s e)
 
 -- a callee that was given another reading with the same brackets
-pub fed_as : (f : Fed) (r r' : Reading) (q : State) (w n' w' : List ℕ) → r.depth ≡ r'.depth → FedBy f r 1 q w n' w'
+pub fed_as : (f : Option Reading) (r r' : Reading) (q : State) (w n' w' : List ℕ) → r.depth ≡ r'.depth → FedBy f r 1 q w n' w'
     → FedBy f r' 1 q w n' w'
-fed_as (fed.On a) r r' q w n' w' e (h, s, d) = (h, s, omega arith)
-fed_as fed.Short r r' q w n' w' e h = full_more w (r.depth + 1) (r'.depth + 1) h (omega arith)
+fed_as (Some a) r r' q w n' w' e (h, s, d) = (h, s, omega arith)
+fed_as None r r' q w n' w' e h = full_more w (r.depth + 1) (r'.depth + 1) h (omega arith)

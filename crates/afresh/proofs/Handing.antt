@@ -11,8 +11,7 @@ use Rattle.brackets.specs.Stacks.{stack_of}
 use Rattle.afresh.specs.States.{State, state, shorn, slant, closed, in_solid}
 use Rattle.afresh.specs.Feeding.{state_of, Sound, FedBy}
 use Rattle.afresh.specs.declared.Reading.{Reading}
-use Rattle.afresh.specs.declared.Fed.{Fed}
-use Rattle.afresh.specs.declared.Fed.TheVariants as fed
+use Rattle.std.specs.Prelude.{Option, Some}
 use Rattle.afresh.proofs.Feeding.{named, name_shorn, named_sound, fed_as}
 
 -- the reading r' that was handed on, by what it is
@@ -21,21 +20,21 @@ handed_sound {r} {r'} {k} {m} {g} {n} {w} s e h = subst (λ (r : Reading). Sound
 
 -- past a `\` and a newline, with the name as it was
 pub fed_line : {r r' : Reading} {n w : List ℕ} → Sound r n w → r' ≡ named r 13 r.grave r.count
-    → FedBy (fed.On r') r 1 (state_of (named r 13 r.grave r.count) n w) w n w
+    → FedBy (Some r') r 1 (state_of (named r 13 r.grave r.count) n w) w n w
 fed_line {r} {r'} {n} {w} s e = (
   ap (λ (r : Reading). state_of r n w) e,
   handed_sound s e s.count,
   subst (λ (d : ℕ). d ≤ r.depth + 1) (sym (ap (λ (r : Reading). r.depth) e)) (omega arith),
 )
 
-module _ (F : State → ℕ → State) (f : Fed) (r r' : Reading) (k m : ℕ) (g : Bool) (b : ℕ) (n w n' w' : List ℕ)
+module _ (F : State → ℕ → State) (f : Option Reading) (r r' : Reading) (k m : ℕ) (g : Bool) (b : ℕ) (n w n' w' : List ℕ)
     (e : r' ≡ named r k g m) (h : FedBy f r' 1 (F (state_of r' n w) b) w n' w') where
   fed_handed : (q : State) → state_of (named r k g m) n w ≡ q → FedBy f r 1 (F q b) w n' w'
   fed_handed q l =
       let a = subst (λ (r' : Reading). FedBy f r' 1 (F (state_of r' n w) b) w n' w') e h in
       subst (λ (q : State). FedBy f r 1 (F q b) w n' w') l (fed_as f (named r k g m) r (F (state_of (named r k g m) n w) b) w n' w' refl a)
 
-module _ (f : Fed) (r : Reading) (b : ℕ) (n w n' w' : List ℕ) where
+module _ (f : Option Reading) (r : Reading) (b : ℕ) (n w n' w' : List ℕ) where
   -- the name without its last byte
   pub fed_shorn : {r' : Reading} {m : ℕ} → r.count ≤ length n → m ≡ r.count - 1 → r' ≡ named r 13 r.grave m
       → FedBy f r' 1 (closed (state_of r' n w) b) w n' w' → FedBy f r 1 (closed (shorn (state_of r n w)) b) w n' w'

@@ -1,13 +1,9 @@
 -- A reading as a number for its state, with the name and the closing brackets due in lent buffers.
 -- Assumes nothing.
-use Rattle.std.specs.Prelude.{ℕ, ◌+◌, ◌*◌, ◌≤◌, Bool, true, false, ◌≡◌, List, length, take}
+use Rattle.std.specs.Prelude.{ℕ, ◌+◌, ◌*◌, ◌≤◌, Bool, Option, Some, None, ◌≡◌, List, length, take}
 use Rattle.brackets.specs.Stacks.{stack_of, Full}
 use Rattle.afresh.specs.States.{State, state}
 use Rattle.afresh.specs.declared.Reading.{Reading}
-use Rattle.afresh.specs.declared.Fed.{Fed}
-use Rattle.afresh.specs.declared.Fed.TheVariants as fed
-use Rattle.afresh.specs.declared.Verdict.{Verdict}
-use Rattle.afresh.specs.declared.Verdict.TheVariants as verdict
 
 abbrev pub state_of : Reading → List ℕ → List ℕ → State
 state_of r name stack =
@@ -20,11 +16,11 @@ pub record Sound (r : Reading) (name stack : List ℕ) : Type 0 where
   pub depth : r.depth ≤ 4 * length stack
 
 -- n more bytes were read, and the reading is in the state q then; or the brackets have no room
-abbrev pub FedBy : Fed → Reading → ℕ → State → List ℕ → List ℕ → List ℕ → Type 0
-FedBy (fed.On r') r n q stack name' stack' =
+abbrev pub FedBy : Option Reading → Reading → ℕ → State → List ℕ → List ℕ → List ℕ → Type 0
+FedBy (Some r') r n q stack name' stack' =
     (state_of r' name' stack' ≡ q) × Sound r' name' stack' × (r'.depth ≤ r.depth + n)
-FedBy fed.Short r n q stack name' stack' = Full stack (r.depth + n)
+FedBy None r n q stack name' stack' = Full stack (r.depth + n)
 
-abbrev pub verdict_of : Bool → Verdict
-verdict_of true = verdict.Bad
-verdict_of false = verdict.Good
+-- the answer on whether a text is bad, where the brackets have room
+abbrev pub verdict_of : Bool → Option Bool
+verdict_of bad = Some bad

@@ -1,7 +1,7 @@
 // A stored text or default read afresh, one byte at a time, and what makes it bad (document 01, "Bad definition").
 #![tactic(auto)]
 
-ghost use Rattle.std.specs.Prelude.{◌≡◌, true, false, not, List, ℕ, ◌*◌, ◌≤◌, length};
+ghost use Rattle.std.specs.Prelude.{Some, ◌≡◌, true, false, not, List, ℕ, ◌*◌, ◌≤◌, length};
 ghost use Rattle.afresh.specs.States.{naming, longer, single, fresh, closed, in_word, in_solid, in_doubt, in_line, in_accent, in_slanted, in_twice, in_tick, in_run, in_string, is_string, in_marked, in_short, outside, next, leaves, ended, spoilt};
 ghost use Rattle.afresh.specs.States.{sign as sign_of};
 ghost use Rattle.afresh.specs.Feeding.{state_of, Sound, FedBy, verdict_of};
@@ -11,6 +11,7 @@ use lex::{is_base, is_digit, is_legal, is_run, is_sign, is_space, is_start, is_w
 use names::directive_of;
 use text::part_of;
 
+// The states are numbers, and no enum: the definitions of specs/States.antt, which may not change, speak of them so.
 const START: usize = 0;
 
 const WORD: usize = 1;
@@ -59,52 +60,36 @@ pub struct Reading {
     pub depth: usize,
 }
 
-// A reading some bytes further on; or the brackets have no room.
-#[derive(Clone, Copy)]
-pub enum Fed {
-    On(Reading),
-    Short,
-}
-
-#[derive(Clone, Copy)]
-pub enum Verdict {
-    Bad,
-    Good,
-    Short,
-}
+// Each function here that reads bytes answers the reading behind them, or None where the brackets have no room.
 
 // The same reading in another state, without a name.
-fn at_state(r: Reading, state: usize) -> Fed
-    ensures { result ≡ Fed.On (record { state = state; text = r.text; marks = r.marks; grave = false; count = 0; depth = r.depth }) }
+fn at_state(r: Reading, state: usize) -> Option<Reading>
+    ensures { result ≡ Some (record { state = state; text = r.text; marks = r.marks; grave = false; count = 0; depth = r.depth }) }
 {
-    Fed::On(Reading {
+    Some(Reading {
         state,
-        text: r.text,
-        marks: r.marks,
         grave: false,
         count: 0,
-        depth: r.depth,
+        ..r
     })
 }
 
 // In a name that has only the byte `b` so far.
-fn start_name(r: Reading, state: usize, grave: bool, b: u8, name: &mut [u8]) -> Fed
+fn start_name(r: Reading, state: usize, grave: bool, b: u8, name: &mut [u8]) -> Option<Reading>
     requires { (1025 ≤ length name.old) × (r.count ≤ 1025) }
     ensures { (w : List ℕ) → r.depth ≤ 4 * length w → FedBy result r 1 (naming state grave (state_of r name.old w) b) w name.new w }
 {
     name[0] = b;
-    Fed::On(Reading {
+    Some(Reading {
         state,
-        text: r.text,
-        marks: r.marks,
         grave,
         count: 1,
-        depth: r.depth,
+        ..r
     })
 }
 
 // The name with the byte `b`, unless it has `most` bytes.
-fn add_byte(r: Reading, most: usize, state: usize, b: u8, name: &mut [u8]) -> Fed
+fn add_byte(r: Reading, most: usize, state: usize, b: u8, name: &mut [u8]) -> Option<Reading>
     requires { (1025 ≤ length name.old) × (r.count ≤ 1025) × (most ≤ 1025) }
     ensures { (w : List ℕ) → r.depth ≤ 4 * length w → FedBy result r 1 (longer most state (state_of r name.old w) b) w name.new w }
 {
@@ -113,32 +98,28 @@ fn add_byte(r: Reading, most: usize, state: usize, b: u8, name: &mut [u8]) -> Fe
     }
     let n = r.count;
     name[n] = b;
-    Fed::On(Reading {
+    Some(Reading {
         state,
-        text: r.text,
-        marks: r.marks,
-        grave: r.grave,
         count: n + 1,
-        depth: r.depth,
+        ..r
     })
 }
 
 // With so many closing brackets due.
-fn with_depth(r: Reading, depth: usize) -> Fed
-    ensures { result ≡ Fed.On (record { state = 0; text = r.text; marks = r.marks; grave = false; count = 0; depth = depth }) }
+fn with_depth(r: Reading, depth: usize) -> Option<Reading>
+    ensures { result ≡ Some (record { state = 0; text = r.text; marks = r.marks; grave = false; count = 0; depth = depth }) }
 {
-    Fed::On(Reading {
+    Some(Reading {
         state: START,
-        text: r.text,
-        marks: r.marks,
         grave: false,
         count: 0,
         depth,
+        ..r
     })
 }
 
 // A byte that is a token.
-fn read_single(r: Reading, b: u8, stack: &mut [u8]) -> Fed
+fn read_single(r: Reading, b: u8, stack: &mut [u8]) -> Option<Reading>
     requires { r.depth ≤ 4 * length stack.old }
     ensures { (n : List ℕ) → 1025 ≤ length n → r.count ≤ 1025 → FedBy result r 1 (single (state_of r n stack.old) b) stack.old n stack.new }
 {
@@ -150,12 +131,12 @@ fn read_single(r: Reading, b: u8, stack: &mut [u8]) -> Fed
         Stepped::On(d) => with_depth(r, d),
         Stepped::Done => at_state(r, BAD),
         Stepped::Torn => at_state(r, BAD),
-        Stepped::Short => Fed::Short,
+        Stepped::Short => None,
     }
 }
 
 // The first byte of a token, none of those that `read_fresh` takes.
-fn read_sign(r: Reading, b: u8, stack: &mut [u8]) -> Fed
+fn read_sign(r: Reading, b: u8, stack: &mut [u8]) -> Option<Reading>
     requires { r.depth ≤ 4 * length stack.old }
     ensures { (n : List ℕ) → 1025 ≤ length n → r.count ≤ 1025 → FedBy result r 1 (sign_of (state_of r n stack.old) b) stack.old n stack.new }
 {
@@ -172,7 +153,7 @@ fn read_sign(r: Reading, b: u8, stack: &mut [u8]) -> Fed
 }
 
 // The first byte of a token.
-fn read_fresh(r: Reading, b: u8, name: &mut [u8], stack: &mut [u8]) -> Fed
+fn read_fresh(r: Reading, b: u8, name: &mut [u8], stack: &mut [u8]) -> Option<Reading>
     requires { Sound r name.old stack.old }
     ensures { FedBy result r 1 (fresh (state_of r name.old stack.old) b) stack.old name.new stack.new }
 {
@@ -218,7 +199,7 @@ fn is_spoilt(r: Reading, name: &[u8]) -> bool
 }
 
 // The byte `b` begins a token, and a name is whole.
-fn read_closed(r: Reading, b: u8, name: &mut [u8], stack: &mut [u8]) -> Fed
+fn read_closed(r: Reading, b: u8, name: &mut [u8], stack: &mut [u8]) -> Option<Reading>
     requires { Sound r name.old stack.old }
     ensures { FedBy result r 1 (closed (state_of r name.old stack.old) b) stack.old name.new stack.new }
 {
@@ -229,7 +210,7 @@ fn read_closed(r: Reading, b: u8, name: &mut [u8], stack: &mut [u8]) -> Fed
 }
 
 // In a name.
-fn read_word(r: Reading, b: u8, name: &mut [u8], stack: &mut [u8]) -> Fed
+fn read_word(r: Reading, b: u8, name: &mut [u8], stack: &mut [u8]) -> Option<Reading>
     requires { Sound r name.old stack.old }
     ensures { FedBy result r 1 (in_word (state_of r name.old stack.old) b) stack.old name.new stack.new }
 {
@@ -240,7 +221,7 @@ fn read_word(r: Reading, b: u8, name: &mut [u8], stack: &mut [u8]) -> Fed
 }
 
 // Past a `\`, or in an escaped name.
-fn read_solid(r: Reading, b: u8, name: &mut [u8], stack: &mut [u8]) -> Fed
+fn read_solid(r: Reading, b: u8, name: &mut [u8], stack: &mut [u8]) -> Option<Reading>
     requires { Sound r name.old stack.old }
     ensures { FedBy result r 1 (in_solid (state_of r name.old stack.old) b) stack.old name.new stack.new }
 {
@@ -259,16 +240,13 @@ fn at_line(r: Reading, count: usize) -> Reading
 {
     Reading {
         state: LINE,
-        text: r.text,
-        marks: r.marks,
-        grave: r.grave,
         count,
-        depth: r.depth,
+        ..r
     }
 }
 
 // In an escaped name, past a `\`.
-fn read_doubt(r: Reading, b: u8, name: &mut [u8], stack: &mut [u8]) -> Fed
+fn read_doubt(r: Reading, b: u8, name: &mut [u8], stack: &mut [u8]) -> Option<Reading>
     requires { Sound r name.old stack.old }
     ensures { FedBy result r 1 (in_doubt (state_of r name.old stack.old) b) stack.old name.new stack.new }
 {
@@ -276,18 +254,18 @@ fn read_doubt(r: Reading, b: u8, name: &mut [u8], stack: &mut [u8]) -> Fed
         return at_state(r, BAD);
     }
     if b == 10 {
-        return Fed::On(at_line(r, r.count));
+        return Some(at_line(r, r.count));
     }
     read_solid(r, b, name, stack)
 }
 
 // Past an escaped name, a `\` and white space that a newline begins.
-fn read_line(r: Reading, b: u8, name: &mut [u8], stack: &mut [u8]) -> Fed
+fn read_line(r: Reading, b: u8, name: &mut [u8], stack: &mut [u8]) -> Option<Reading>
     requires { Sound r name.old stack.old }
     ensures { FedBy result r 1 (in_line (state_of r name.old stack.old) b) stack.old name.new stack.new }
 {
     if is_space(b) {
-        return Fed::On(r);
+        return Some(r);
     }
     if r.count == 0 {
         return read_closed(at_line(r, 0), b, name, stack);
@@ -296,21 +274,20 @@ fn read_line(r: Reading, b: u8, name: &mut [u8], stack: &mut [u8]) -> Fed
 }
 
 // Past a quote mark.
-fn turned(r: Reading) -> Fed
-    ensures { result ≡ Fed.On (record { state = 0; text = r.text; marks = not r.marks; grave = false; count = 0; depth = r.depth }) }
+fn turned(r: Reading) -> Option<Reading>
+    ensures { result ≡ Some (record { state = 0; text = r.text; marks = not r.marks; grave = false; count = 0; depth = r.depth }) }
 {
-    Fed::On(Reading {
+    Some(Reading {
         state: START,
-        text: r.text,
         marks: !r.marks,
         grave: false,
         count: 0,
-        depth: r.depth,
+        ..r
     })
 }
 
 // Past a grave accent.
-fn read_accent(r: Reading, b: u8, name: &mut [u8]) -> Fed
+fn read_accent(r: Reading, b: u8, name: &mut [u8]) -> Option<Reading>
     requires { (1025 ≤ length name.old) × (r.count ≤ 1025) }
     ensures { (w : List ℕ) → r.depth ≤ 4 * length w → FedBy result r 1 (in_accent (state_of r name.old w) b) w name.new w }
 {
@@ -335,16 +312,14 @@ fn slanted(r: Reading, count: usize) -> Reading
 {
     Reading {
         state: SOLID,
-        text: r.text,
-        marks: r.marks,
         grave: true,
         count,
-        depth: r.depth,
+        ..r
     }
 }
 
 // Past a grave accent and a `\`.
-fn read_slanted(r: Reading, b: u8, name: &mut [u8], stack: &mut [u8]) -> Fed
+fn read_slanted(r: Reading, b: u8, name: &mut [u8], stack: &mut [u8]) -> Option<Reading>
     requires { Sound r name.old stack.old }
     ensures { FedBy result r 1 (in_slanted (state_of r name.old stack.old) b) stack.old name.new stack.new }
 {
@@ -358,7 +333,7 @@ fn read_slanted(r: Reading, b: u8, name: &mut [u8], stack: &mut [u8]) -> Fed
 }
 
 // Past a grave accent, a `\` and a grave accent.
-fn read_twice(r: Reading, b: u8, name: &mut [u8], stack: &mut [u8]) -> Fed
+fn read_twice(r: Reading, b: u8, name: &mut [u8], stack: &mut [u8]) -> Option<Reading>
     requires { Sound r name.old stack.old }
     ensures { FedBy result r 1 (in_twice (state_of r name.old stack.old) b) stack.old name.new stack.new }
 {
@@ -373,7 +348,7 @@ fn read_twice(r: Reading, b: u8, name: &mut [u8], stack: &mut [u8]) -> Fed
 }
 
 // Past an apostrophe.
-fn read_tick(r: Reading, b: u8, name: &mut [u8], stack: &mut [u8]) -> Fed
+fn read_tick(r: Reading, b: u8, name: &mut [u8], stack: &mut [u8]) -> Option<Reading>
     requires { Sound r name.old stack.old }
     ensures { FedBy result r 1 (in_tick (state_of r name.old stack.old) b) stack.old name.new stack.new }
 {
@@ -387,7 +362,14 @@ fn read_tick(r: Reading, b: u8, name: &mut [u8], stack: &mut [u8]) -> Fed
 }
 
 // In the run of a number, of a `$` or of a based number.
-fn read_run(r: Reading, state: usize, more: u8, b: u8, name: &mut [u8], stack: &mut [u8]) -> Fed
+fn read_run(
+    r: Reading,
+    state: usize,
+    more: u8,
+    b: u8,
+    name: &mut [u8],
+    stack: &mut [u8],
+) -> Option<Reading>
     requires { Sound r name.old stack.old }
     ensures { FedBy result r 1 (in_run state more (state_of r name.old stack.old) b) stack.old name.new stack.new }
 {
@@ -398,7 +380,7 @@ fn read_run(r: Reading, state: usize, more: u8, b: u8, name: &mut [u8], stack: &
 }
 
 // In a string.
-fn read_string(r: Reading, b: u8) -> Fed
+fn read_string(r: Reading, b: u8) -> Option<Reading>
     ensures { (n w : List ℕ) → Sound r n w → FedBy result r 1 (in_string (state_of r n w) b) w n w }
 {
     if b == 10 {
@@ -426,7 +408,7 @@ fn is_string(r: Reading) -> bool
 }
 
 // Behind a name's `\` or a grave accent.
-fn read_marked(r: Reading, b: u8, name: &mut [u8], stack: &mut [u8]) -> Fed
+fn read_marked(r: Reading, b: u8, name: &mut [u8], stack: &mut [u8]) -> Option<Reading>
     requires { Sound r name.old stack.old }
     ensures { FedBy result r 1 (in_marked (state_of r name.old stack.old) b) stack.old name.new stack.new }
 {
@@ -452,7 +434,7 @@ fn read_marked(r: Reading, b: u8, name: &mut [u8], stack: &mut [u8]) -> Fed
 }
 
 // Past a token that the byte `b` may end otherwise: an apostrophe, its sign, a string of no bytes, a `/`.
-fn read_short(r: Reading, b: u8, name: &mut [u8], stack: &mut [u8]) -> Fed
+fn read_short(r: Reading, b: u8, name: &mut [u8], stack: &mut [u8]) -> Option<Reading>
     requires { Sound r name.old stack.old }
     ensures { FedBy result r 1 (in_short (state_of r name.old stack.old) b) stack.old name.new stack.new }
 {
@@ -481,7 +463,7 @@ fn read_short(r: Reading, b: u8, name: &mut [u8], stack: &mut [u8]) -> Fed
 }
 
 // Outside strings.
-fn read_outside(r: Reading, b: u8, name: &mut [u8], stack: &mut [u8]) -> Fed
+fn read_outside(r: Reading, b: u8, name: &mut [u8], stack: &mut [u8]) -> Option<Reading>
     requires { Sound r name.old stack.old }
     ensures { FedBy result r 1 (outside (state_of r name.old stack.old) b) stack.old name.new stack.new }
 {
@@ -501,7 +483,7 @@ fn read_outside(r: Reading, b: u8, name: &mut [u8], stack: &mut [u8]) -> Fed
 }
 
 // Reads the byte `b`.
-pub fn read_byte(r: Reading, b: u8, name: &mut [u8], stack: &mut [u8]) -> Fed
+pub fn read_byte(r: Reading, b: u8, name: &mut [u8], stack: &mut [u8]) -> Option<Reading>
     requires { Sound r name.old stack.old }
     ensures { FedBy result r 1 (next (state_of r name.old stack.old) b) stack.old name.new stack.new }
 {
@@ -545,13 +527,10 @@ fn leaves_bad(r: Reading, name: &[u8]) -> bool
     is_string(r) | ((r.state == ACCENT) | ((r.state == SLANTED) | (BAD <= r.state)))
 }
 
-// The verdict at the end.
-pub fn end_verdict(r: Reading, name: &[u8]) -> Verdict
+// Whether the whole text is bad, as its end shows.
+pub fn end_verdict(r: Reading, name: &[u8]) -> Option<bool>
     requires { r.count ≤ length name.now }
     ensures { (w : List ℕ) → result ≡ verdict_of (ended (state_of r name.now w)) }
 {
-    if r.marks | ((0 < r.depth) | leaves_bad(r, name)) {
-        return Verdict::Bad;
-    }
-    Verdict::Good
+    Some(r.marks | ((0 < r.depth) | leaves_bad(r, name)))
 }

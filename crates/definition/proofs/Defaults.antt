@@ -3,11 +3,12 @@
 use Prim.Native.Nat.{ℕ, ◌+◌, ◌*◌, ◌<◌, ◌≤◌}
 use mathlib.Core.Bool.{Bool, true, false, ◌||◌}
 use mathlib.Core.List.{List}
-use mathlib.Core.Path.{◌≡◌, refl, sym, ap, ◌∙◌}
+use mathlib.Core.Path.{◌≡◌, refl, sym, ◌∙◌}
 use native.Mathlib.Omega.{arith}
 use lib.Dec.{eqb}
 use lib.ListN.{length, get_or}
 use borrow.Author.Tests.{eq-eqb, ne_eqb}
+use Rattle.std.specs.Prelude.{Ok, Err}
 use Rattle.lex.specs.declared.Mode.{Mode}
 use Rattle.lex.specs.declared.Token.{Token}
 use Rattle.lex.specs.Tokens.{in_definition, Name, Newline, is_byte, token_at, tokens}
@@ -17,12 +18,10 @@ use Rattle.brackets.specs.declared.Stepped.TheVariants as stepped
 use Rattle.brackets.proofs.Stacking.{full_more, stepped_on, stepped_done, stepped_torn, stepped_short}
 use Rattle.brackets.proofs.Settling.{full_lent, settled_through}
 use Rattle.storing.proofs.Reading.{token_past}
-use Rattle.definition.specs.declared.Ending.{Ending}
-use Rattle.definition.specs.declared.Ending.TheVariants as ending
-use Rattle.definition.specs.declared.FormalRead.{FormalRead}
-use Rattle.definition.specs.declared.FormalRead.TheVariants as formal
+use Rattle.definition.specs.declared.ReadError.{ReadError}
+use Rattle.definition.specs.declared.ReadError.TheVariants.{IllFormed, NoRoom}
 use Rattle.definition.specs.Heads.{gap_end, next_at}
-use Rattle.definition.specs.Lists.{step_at, default_in, default_end, given_formal, formal_by, formal_at}
+use Rattle.definition.specs.Lists.{Ending, step_at, default_in, default_end, given_formal, formal_by, formal_at}
 use Rattle.definition.proofs.Reading.{default_out, default_newline, default_on, default_done, default_torn}
 
 -- the default that starts at `from` is read up to i, `depth` brackets are due, in bytes lent as `lent`
@@ -38,14 +37,14 @@ due_first s from work = record { same = refl; fits = omega arith; passed = omega
 
 module _ {s lent work : List ℕ} {from i depth : ℕ} (d : Due s from lent work i depth) where
   abbrev Told : Ending → Type 0
-  Told r = Settled lent (length s) ending.Short (default_end s from) r
+  Told r = Settled lent (length s) (Err NoRoom) (default_end s from) r
 
-  pub due_out : length s ≤ i → Told ending.Torn
+  pub due_out : length s ≤ i → Told (Err IllFormed)
   due_out h = full (sym (default_out s i (stack_of work depth) h) ∙ d.rest)
 
   -- t: the token at i, as the code reads it
   module _ (m : Mode) (t : Token) (h : i < length s) (f : m ≡ in_definition) (e : t ≡ token_at m s i) where
-    pub due_newline : t.kind ≡ Newline → Told ending.Torn
+    pub due_newline : t.kind ≡ Newline → Told (Err IllFormed)
     due_newline k = full (sym (default_newline s i m t h f e (stack_of work depth) k) ∙ d.rest)
 
     -- r: the step that it takes
@@ -61,40 +60,36 @@ module _ {s lent work : List ℕ} {from i depth : ℕ} (d : Due s from lent work
             rest = sym (default_on s i m t h f e (stack_of work depth) k (stack_of work' n) p.0) ∙ d.rest;
           }
 
-      pub due_done : r ≡ stepped.Done → Told (ending.Upto t.at t.end)
+      pub due_done : r ≡ stepped.Done → Told (Ok (t.at, t.end))
       due_done q =
           full (sym (default_done s i m t h f e (stack_of work depth) k (stepped_done r (step_at s t (stack_of work depth)) work work' depth b q).0) ∙ d.rest)
 
-      pub due_torn : r ≡ stepped.Torn → Told ending.Torn
+      pub due_torn : r ≡ stepped.Torn → Told (Err IllFormed)
       due_torn q =
           full (sym (default_torn s i m t h f e (stack_of work depth) k (stepped_torn r (step_at s t (stack_of work depth)) work work' depth b q).0) ∙ d.rest)
 
-      pub due_short : r ≡ stepped.Short → Told ending.Short
+      pub due_short : r ≡ stepped.Short → Told (Err NoRoom)
       due_short q =
           let p = stepped_short r (step_at s t (stack_of work depth)) work work' depth b q in
           over refl (full_lent work lent (length s) d.same (full_more work depth (length s) p (omega arith)))
 
--- the formal t, whose default starts at a, by the end r of that
-module _ (s : List ℕ) (t : Token) (a : ℕ) {work : List ℕ} {n : ℕ} {r : Ending} (d : Settled work n ending.Short (default_end s a) r) where
-  abbrev Given : FormalRead → Type 0
-  Given v = Settled work n formal.Short (given_formal s t a (default_end s a)) v
+-- the formal t, whose default starts at a, by the end of that
+module _ (s : List ℕ) (t : Token) (a : ℕ) {work : List ℕ} {n : ℕ} where
+  pub given_upto : {e x b : ℕ} → Settled work n (Err NoRoom) (default_end s a) (Ok (e, x)) → b ≡ get_or s e 0
+      → Settled work n (Err NoRoom) (given_formal s t a (default_end s a))
+      (Ok (record { from = t.from; end = t.end; given = true; first = a; stop = e; next = x; last = eqb b 41 }))
+  given_upto d p = settled_through (given_formal s t a) d (rw p)
 
-  pub given_upto : (e x b : ℕ) → r ≡ ending.Upto e x → b ≡ get_or s e 0
-      → Given (formal.Whole (record { from = t.from; end = t.end; given = true; first = a; stop = e; next = x; last = eqb b 41 }))
-  given_upto e x b q p = settled_through (given_formal s t a) d (rw p (ap (given_formal s t a) (sym q)))
-
-  pub given_torn : r ≡ ending.Torn → Given formal.IllFormed
-  given_torn q = settled_through (given_formal s t a) d (ap (given_formal s t a) (sym q))
-
-  pub given_short : r ≡ ending.Short → Given formal.Short
-  given_short q = settled_through (given_formal s t a) d (ap (given_formal s t a) (sym q))
+  pub given_err : {e : ReadError} → Settled work n (Err NoRoom) (default_end s a) (Err e)
+      → Settled work n (Err NoRoom) (given_formal s t a (default_end s a)) (Err e)
+  given_err d = settled_through (given_formal s t a) d refl
 
 -- the formal at i: t, the next word, as the code reads it
 module _ (s : List ℕ) (i a : ℕ) (m : Mode) (t : Token) (g : a ≡ gap_end s i) (f : m ≡ in_definition) (e : t ≡ token_at m s a) where
   pub next_word : next_at s i ≡ t
   next_word = rw (e, f, g)
 
-  pub formal_unnamed : (t.kind ≡ Name → ⊥) → formal_at s i ≡ formal.IllFormed
+  pub formal_unnamed : (t.kind ≡ Name → ⊥) → formal_at s i ≡ Err IllFormed
   unfolding formal_at
   formal_unnamed k = rw (next_word, ne_eqb t.kind Name k)
 
@@ -112,8 +107,8 @@ module _ (s : List ℕ) (i a : ℕ) (m : Mode) (t : Token) (g : a ≡ gap_end s 
 
       module _ (x : given ≡ false) (last comma : Bool) (l : last ≡ is_byte s 41 u) (q : comma ≡ is_byte s 44 u) where
         pub formal_plain : (comma || last) ≡ true
-            → formal_at s i ≡ formal.Whole (record { from = t.from; end = t.end; given = false; first = 0; stop = 0; next = u.end; last = last })
+            → formal_at s i ≡ Ok (record { from = t.from; end = t.end; given = false; first = 0; stop = 0; next = u.end; last = last })
         formal_plain y = formal-by ∙ rw (← p, x, ← l, ← q, y)
 
-        pub formal_other : (comma || last) ≡ false → formal_at s i ≡ formal.IllFormed
+        pub formal_other : (comma || last) ≡ false → formal_at s i ≡ Err IllFormed
         formal_other y = formal-by ∙ rw (← p, x, ← l, ← q, y)

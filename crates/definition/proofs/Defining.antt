@@ -8,6 +8,7 @@ use native.Mathlib.Omega.{arith}
 use lib.Dec.{ltb}
 use lib.ListN.{length}
 use borrow.Author.Tests.{eq-eqb, ne_eqb, lt-ltb, le-ltb}
+use Rattle.std.specs.Prelude.{Some, None, Ok, Err}
 use Rattle.text.specs.Bytes.{part}
 use Rattle.lex.specs.declared.Fault.{Fault}
 use Rattle.names.specs.Names.{directive_of, is_directive}
@@ -16,8 +17,6 @@ use Rattle.brackets.proofs.Settling.{settled_as, settled_full, settled_over}
 use Rattle.storing.specs.Stored.{stored}
 use Rattle.afresh.specs.Judging.{bad_text}
 use Rattle.afresh.specs.Feeding.{verdict_of}
-use Rattle.afresh.specs.declared.Verdict.{Verdict}
-use Rattle.afresh.specs.declared.Verdict.TheVariants as verdict
 use Rattle.definition.specs.Extents.{extent_at, bars_of, Free}
 use Rattle.definition.specs.Heads.{head_at}
 use Rattle.definition.specs.Lists.{Formals, ill, whole, formals_at}
@@ -26,12 +25,12 @@ use Rattle.definition.specs.Answers.{list_of, judged_of}
 use Rattle.definition.specs.declared.Extent.{Extent}
 use Rattle.definition.specs.declared.Head.{Head}
 use Rattle.definition.specs.declared.Formal.{Formal}
-use Rattle.definition.specs.declared.ListRead.{ListRead}
-use Rattle.definition.specs.declared.ListRead.TheVariants as list
+use Rattle.definition.specs.declared.ReadError.TheVariants.{IllFormed, NoRoom}
 use Rattle.definition.specs.declared.Judged.{Judged}
 use Rattle.definition.specs.declared.Judged.TheVariants as judged
+use Rattle.definition.proofs.Counting.{Counts}
 use Rattle.definition.proofs.Onward.{head_free, unbarred_free}
-use Rattle.definition.proofs.Verdicts.{or_first, or_next, told_bad, told_good, told_short}
+use Rattle.definition.proofs.Verdicts.{or_first, or_next, told, told_short}
 
 -- the formals of a head that is whole
 whole_head : (w : Bool) (g : Formals) {fs : List Formal} {x : ℕ} → cond w g ill ≡ whole fs x → g ≡ whole fs x
@@ -55,27 +54,32 @@ pub record Shaped (g : Formals) (n x : ℕ) : Type 0 where
   pub shape : g ≡ whole formals x
   pub count : n ≡ length formals
 
-list_shaped : (g : Formals) (n x : ℕ) → list_of g ≡ list.Whole n x → Shaped g n x
-list_shaped ill n x e = absurd (let z : ◌≡◌ {A = ℕ} 0 1 = cc in omega arith)
-list_shaped (whole fs y) n x e = record { formals = fs; shape = let z : y ≡ x = cc in ap (whole fs) z; count = cc }
+-- the number of formals and the end that were read
+abbrev count_of : Counts → ℕ
+count_of (Ok p) = p.0
+count_of (Err e) = 0
 
-list_ill : (g : Formals) → list_of g ≡ list.IllFormed → g ≡ ill
-list_ill ill e = refl
-list_ill (whole fs y) e = absurd (let z : ◌≡◌ {A = ℕ} 0 1 = cc in omega arith)
+abbrev end_of : Counts → ℕ
+end_of (Ok p) = p.1
+end_of (Err e) = 0
 
-list_full : (g : Formals) → list_of g ≡ list.Short → ⊥
-list_full ill e = let z : ◌≡◌ {A = ℕ} 0 1 = cc in omega arith
-list_full (whole fs y) e = let z : ◌≡◌ {A = ℕ} 0 1 = cc in omega arith
+list_full : (g : Formals) → list_of g ≡ Err NoRoom → ⊥
+list_full ill e = cc
+list_full (whole fs y) e = cc
 
-module _ (g : Formals) {o : List ℕ} {m : ℕ} {r : ListRead} (h : Settled o m list.Short (list_of g) r) where
-  pub told_shape : {n x : ℕ} → r ≡ list.Whole n x → Shaped g n x
-  told_shape {n} {x} e = list_shaped g n x (sym (settled_full h (λ q. let z : ◌≡◌ {A = ℕ} 0 1 = cc in omega arith)) ∙ e)
+module _ {o : List ℕ} {m : ℕ} where
+  pub told_shape : (g : Formals) {n x : ℕ} → Settled o m (Err NoRoom) (list_of g) (Ok (n, x)) → Shaped g n x
+  told_shape ill h = absurd (let z : ◌≡◌ {A = Counts} (Ok (_, _)) (Err IllFormed) = settled_full h (λ q. cc) in cc)
+  told_shape (whole fs y) {n} {x} h =
+      let z : ◌≡◌ {A = Counts} (Ok (n, x)) (Ok (length fs, y)) = settled_full h (λ q. cc) in
+      record { formals = fs; shape = ap (λ (c : Counts). whole fs (end_of c)) (sym z); count = ap count_of z }
 
-  pub told_ill : r ≡ list.IllFormed → g ≡ ill
-  told_ill e = list_ill g (sym (settled_full h (λ q. let z : ◌≡◌ {A = ℕ} 0 1 = cc in omega arith)) ∙ e)
+  pub told_ill : (g : Formals) → Settled o m (Err NoRoom) (list_of g) (Err IllFormed) → g ≡ ill
+  told_ill ill h = refl
+  told_ill (whole fs y) h = absurd (let z : ◌≡◌ {A = Counts} (Err IllFormed) (Ok (length fs, y)) = settled_full h (λ q. cc) in cc)
 
-  pub told_few : r ≡ list.Short → Full o m
-  told_few e = settled_over h e (list_full g)
+  pub told_few : (g : Formals) → Settled o m (Err NoRoom) (list_of g) (Err NoRoom) → Full o m
+  told_few g h = settled_over h refl (list_full g)
 
 -- the definition of a head that is whole, with its formals and its text from x to before e
 module _ (s : List ℕ) (h : Head) (fs : List Formal) (x e : ℕ) where
@@ -114,17 +118,17 @@ module _ (s : List ℕ) (h : Head) (fs : List Formal) (x e : ℕ) where
   judged-by : Bool → Definition
   judged-by b = cond b (bad e) (good (macro named_so (parameters_of s fs) (stored s x e)) e)
 
-  module _ {o : List ℕ} {m : ℕ} {r : Verdict} (v : Settled o m verdict.Short (verdict_of judgement) r) where
-    pub judged_bad : r ≡ verdict.Bad → Settled o m judged.Short (judged_of (judged_by s h e (whole fs x))) (judged.Bad e)
+  module _ {o : List ℕ} {m : ℕ} where
+    pub judged_bad : {b : Bool} → Settled o m None (verdict_of judgement) (Some b) → b ≡ true → Settled o m judged.Short (judged_of (judged_by s h e (whole fs x))) (judged.Bad e)
     unfolding judged-by
-    judged_bad q = full (ap (λ (b : Bool). judged_of (judged-by b)) (sym (told_bad judgement v q)))
+    judged_bad v q = full (ap (λ (b : Bool). judged_of (judged-by b)) (sym (told v ∙ q)))
 
-    pub judged_good : r ≡ verdict.Good → Settled o m judged.Short (judged_of (judged_by s h e (whole fs x))) (judged.Good e)
+    pub judged_good : {b : Bool} → Settled o m None (verdict_of judgement) (Some b) → b ≡ false → Settled o m judged.Short (judged_of (judged_by s h e (whole fs x))) (judged.Good e)
     unfolding judged-by
-    judged_good q = full (ap (λ (b : Bool). judged_of (judged-by b)) (sym (told_good judgement v q)))
+    judged_good v q = full (ap (λ (b : Bool). judged_of (judged-by b)) (sym (told v ∙ q)))
 
-    pub judged_short : r ≡ verdict.Short → Settled o m judged.Short (judged_of (judged_by s h e (whole fs x))) judged.Short
-    judged_short q = over refl (told_short judgement v q)
+    pub judged_short : Settled o m None (verdict_of judgement) None → Settled o m judged.Short (judged_of (judged_by s h e (whole fs x))) judged.Short
+    judged_short v = over refl (told_short v)
 
 -- the definition at i
 module _ (s : List ℕ) (i : ℕ) {w : Extent} {h : Head} (p : w ≡ extent_at s i) (q : h ≡ head_at s i) (g : Formals) (k : shape_by s h ≡ g) where

@@ -8,6 +8,7 @@ use native.Mathlib.Omega.{arith}
 use lib.Dec.{eqb, leb}
 use lib.ListN.{length, get_or}
 use borrow.Author.Tests.{leb-true, leb-false}
+use Rattle.std.specs.Prelude.{Result, Ok, Err}
 use Rattle.lex.specs.declared.Mode.{Mode}
 use Rattle.lex.specs.declared.Token.{Token}
 use Rattle.lex.specs.Tokens.{in_definition, Name, Byte, End, is, is_byte, is_gap, token_at, mode_after, tokens}
@@ -16,12 +17,10 @@ use Rattle.lex.proofs.Progress.{Inside, token-at, token_past, token_ends, token_
 use Rattle.lex.proofs.Listing.{tokens_out, by_tokens}
 use Rattle.brackets.specs.Steps.{Step, on, done, torn}
 use Rattle.definition.specs.Heads.{gap_in, gap_end, next_at}
-use Rattle.definition.specs.Lists.{step_at, by_step, default_in, default_end, given_formal, formal_by, formal_at, Formals, ill, whole, also, formals_from, formals_at, behind}
-use Rattle.definition.specs.declared.Ending.{Ending}
-use Rattle.definition.specs.declared.Ending.TheVariants as ending
+use Rattle.definition.specs.Lists.{Ending, step_at, by_step, default_in, default_end, given_formal, formal_by, formal_at, Formals, ill, whole, also, formals_from, formals_at, behind}
 use Rattle.definition.specs.declared.Formal.{Formal}
-use Rattle.definition.specs.declared.FormalRead.{FormalRead}
-use Rattle.definition.specs.declared.FormalRead.TheVariants as formal
+use Rattle.definition.specs.declared.ReadError.{ReadError}
+use Rattle.definition.specs.declared.ReadError.TheVariants.{IllFormed, NoRoom}
 
 -- a token of a kind other than End starts in the text
 pub kind_inside : (m : Mode) (s : List ℕ) (i k : ℕ) → eqb End k ≡ false → is k (token_at m s i) ≡ true → i < length s
@@ -52,18 +51,18 @@ gap_inside s i h = gap-in s in_definition i h
 
 -- a default from i on ends in the text
 EndsIn : List ℕ → ℕ → Ending → Type 0
-EndsIn s i (ending.Upto e x) = (i ≤ e) × (e < x) × (x ≤ length s)
-EndsIn s i ending.Torn = Unit {0}
-EndsIn s i ending.Short = ⊥
+EndsIn s i (Ok (e, x)) = (i ≤ e) × (e < x) × (x ≤ length s)
+EndsIn s i (Err IllFormed) = Unit {0}
+EndsIn s i (Err NoRoom) = ⊥
 
 earlier : (s : List ℕ) (i j : ℕ) → i ≤ j → (r : Ending) → EndsIn s j r → EndsIn s i r
 unfolding EndsIn
-earlier s i j h (ending.Upto e x) p = (omega arith, p.1, p.2)
-earlier s i j h ending.Torn p = tt
-earlier s i j h ending.Short p = p
+earlier s i j h (Ok (e, x)) p = (omega arith, p.1, p.2)
+earlier s i j h (Err IllFormed) p = tt
+earlier s i j h (Err NoRoom) p = p
 
-by-step : (P : Ending → Type 0) (p : Step) (t : Token) (go : List ℕ → Ending) → ((ks : List ℕ) → P (go ks)) → P (ending.Upto t.at t.end)
-    → P ending.Torn → P (by_step p t go)
+by-step : (P : Ending → Type 0) (p : Step) (t : Token) (go : List ℕ → Ending) → ((ks : List ℕ) → P (go ks)) → P (Ok (t.at, t.end))
+    → P (Err IllFormed) → P (by_step p t go)
 by-step P (on ks) t go f d n = f ks
 by-step P done t go f d n = d
 by-step P torn t go f d n = n
@@ -81,19 +80,19 @@ default-in s m i =
     (omega arith, omega arith, token_within m s i l) tt) m i
 
 -- a formal from i on ends in the text
-FormalIn : List ℕ → ℕ → FormalRead → Type 0
-FormalIn s i (formal.Whole f) = (i < f.next) × (f.next ≤ length s)
-FormalIn s i formal.IllFormed = Unit {0}
-FormalIn s i formal.Short = ⊥
+FormalIn : List ℕ → ℕ → Result Formal ReadError → Type 0
+FormalIn s i (Ok f) = (i < f.next) × (f.next ≤ length s)
+FormalIn s i (Err IllFormed) = Unit {0}
+FormalIn s i (Err NoRoom) = ⊥
 
 given_in : (s : List ℕ) (t : Token) (i a : ℕ) → i ≤ a → (r : Ending) → EndsIn s a r → FormalIn s i (given_formal s t a r)
 unfolding EndsIn FormalIn
-given_in s t i a h (ending.Upto e x) p = (omega arith, p.2)
-given_in s t i a h ending.Torn p = tt
-given_in s t i a h ending.Short p = p
+given_in s t i a h (Ok (e, x)) p = (omega arith, p.2)
+given_in s t i a h (Err IllFormed) p = tt
+given_in s t i a h (Err NoRoom) p = p
 
 -- no formal starts past the text
-pub formal_out : (s : List ℕ) (i : ℕ) → length s ≤ i → formal_at s i ≡ formal.IllFormed
+pub formal_out : (s : List ℕ) (i : ℕ) → length s ≤ i → formal_at s i ≡ Err IllFormed
 unfolding formal_at gap_end gap_in
 formal_out s i h = rw (tokens_out in_definition s i h, token_past in_definition s i h)
 
@@ -129,12 +128,12 @@ formal_in s i = go (leb (length s) i) refl
 
 module _ (s : List ℕ) (i : ℕ) where
   -- a formal is not empty, and ends within the text
-  pub formal_inside : (f : Formal) → formal_at s i ≡ formal.Whole f → (i < f.next) × (f.next ≤ length s)
+  pub formal_inside : (f : Formal) → formal_at s i ≡ Ok f → (i < f.next) × (f.next ≤ length s)
   unfolding FormalIn
   formal_inside f q = subst (FormalIn s i) q (formal_in s i)
 
   -- the definition of a formal is never short of bytes
-  pub formal_full : formal_at s i ≡ formal.Short → ⊥
+  pub formal_full : formal_at s i ≡ Err NoRoom → ⊥
   unfolding FormalIn
   formal_full q = subst (FormalIn s i) q (formal_in s i)
 
@@ -143,11 +142,10 @@ module _ (s : List ℕ) where
   abbrev Alike : ℕ → ℕ → ℕ → Type 0
   Alike n k i = formals_from n s i ≡ formals_from k s i
 
-  alike : (n k i : ℕ) (r : FormalRead) → formal_at s i ≡ r → ((f : Formal) → formal_at s i ≡ formal.Whole f → Alike n k f.next) → Alike (suc n) (suc k) i
+  alike : (n k i : ℕ) (r : Result Formal ReadError) → formal_at s i ≡ r → ((f : Formal) → formal_at s i ≡ Ok f → Alike n k f.next) → Alike (suc n) (suc k) i
   unfolding formals_from
-  alike n k i (formal.Whole f) e g = rw (e, g f e)
-  alike n k i formal.IllFormed e g = rw e
-  alike n k i formal.Short e g = rw e
+  alike n k i (Ok f) e g = rw (e, g f e)
+  alike n k i (Err x) e g = rw e
 
   enough : (n k i : ℕ) → length s - i < n → length s - i < k → Alike n k i
   enough zero k i h g = absurd (omega arith)
@@ -157,7 +155,7 @@ module _ (s : List ℕ) where
       (λ f e. let p = formal_inside s i f e in enough n k f.next (omega arith) (omega arith))
 
 module _ (s : List ℕ) (i : ℕ) where
-  pub formals_ill : formal_at s i ≡ formal.IllFormed → formals_at s i ≡ ill
+  pub formals_ill : formal_at s i ≡ Err IllFormed → formals_at s i ≡ ill
   unfolding formals_at formals_from
   formals_ill e = rw e
 
@@ -165,7 +163,7 @@ module _ (s : List ℕ) (i : ℕ) where
   formals_out h = formals_ill (formal_out s i h)
 
   -- the formal at i, and those behind it
-  pub formals_next : (f : Formal) → formal_at s i ≡ formal.Whole f → formals_at s i ≡ also f (behind s f)
+  pub formals_next : (f : Formal) → formal_at s i ≡ Ok f → formals_at s i ≡ also f (behind s f)
   unfolding formals_at formals_from behind
   formals_next f e =
       let p = formal_inside s i f e in
@@ -177,7 +175,7 @@ pub record Rest (s : List ℕ) (f : Formal) (fs : List Formal) (e : ℕ) : Type 
   pub first : fs ≡ f ∷ rest
   pub others : behind s f ≡ whole rest e
 
-pub formals_rest : (s : List ℕ) (i : ℕ) (f : Formal) (fs : List Formal) (e : ℕ) → formal_at s i ≡ formal.Whole f → formals_at s i ≡ whole fs e → Rest s f fs e
+pub formals_rest : (s : List ℕ) (i : ℕ) (f : Formal) (fs : List Formal) (e : ℕ) → formal_at s i ≡ Ok f → formals_at s i ≡ whole fs e → Rest s f fs e
 formals_rest s i f fs e q p = go (behind s f) refl
   where
     go : (r : Formals) → behind s f ≡ r → Rest s f fs e

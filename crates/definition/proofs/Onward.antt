@@ -8,6 +8,7 @@ use native.Mathlib.Omega.{arith}
 use lib.Dec.{eqb, leb, ltb}
 use lib.ListN.{length, get_or}
 use borrow.Author.Tests.{eqb-true, eqb-false}
+use Rattle.std.specs.Prelude.{Result, Ok, Err}
 use Rattle.lex.specs.Tokens.{in_definition, White, Newline, Name, Escaped, Quote, Byte, End, is, is_byte, is_gap, token_at, mode_after, tokens}
 use Rattle.lex.specs.Faults.{no_fault, fault_of, worse_of, Unbarred, none, some}
 use Rattle.lex.specs.declared.Fault.{Fault}
@@ -18,15 +19,12 @@ use Rattle.lex.proofs.Listing.{tokens_next, by_tokens}
 use Rattle.brackets.specs.Steps.{Step, on, done, torn}
 use Rattle.definition.specs.Extents.{mark_of, extent_in, extent_at, bars_of, Free}
 use Rattle.definition.specs.Heads.{gap_in, gap_end, next_at, open_at, head_by, head_at}
-use Rattle.definition.specs.Lists.{step_at, by_step, default_in, default_end, given_formal, formal_by, formal_at, Formals, ill, whole, also, by_formal, formals_from, formals_at}
+use Rattle.definition.specs.Lists.{Ending, step_at, by_step, default_in, default_end, given_formal, formal_by, formal_at, Formals, ill, whole, also, by_formal, formals_from, formals_at}
 use Rattle.definition.specs.Definitions.{shape_by}
 use Rattle.definition.specs.Answers.{FreeDefault}
-use Rattle.definition.specs.declared.Ending.{Ending}
-use Rattle.definition.specs.declared.Ending.TheVariants as ending
 use Rattle.definition.specs.declared.Extent.{Extent}
 use Rattle.definition.specs.declared.Formal.{Formal}
-use Rattle.definition.specs.declared.FormalRead.{FormalRead}
-use Rattle.definition.specs.declared.FormalRead.TheVariants as formal
+use Rattle.definition.specs.declared.ReadError.{ReadError}
 use Rattle.definition.specs.declared.Head.{Head}
 use Rattle.definition.proofs.Formals.{kind_inside}
 use Rattle.definition.proofs.Seeing.{token_seen, white_one, byte_one}
@@ -83,9 +81,8 @@ module _ (s : List ℕ) where
 
   -- past a default
   Ended : Mode → Ending → Type 0
-  Ended m (ending.Upto e x) = Unbarred (tokens m s x)
-  Ended m ending.Torn = Unit {0}
-  Ended m ending.Short = Unit {0}
+  Ended m (Ok (e, x)) = Unbarred (tokens m s x)
+  Ended m (Err e) = Unit {0}
 
   default_past : (m : Mode) (i : ℕ) (ks : List ℕ) → Unbarred (tokens m s i) → Ended m (default_in s ks (tokens m s i))
   unfolding Ended default_in
@@ -107,16 +104,14 @@ module _ (s : List ℕ) where
       go m i l n r ks u torn e = tt
 
   -- a formal
-  unfoldable pub FormalFree : FormalRead → Type 0
-  FormalFree (formal.Whole f) = FreeDefault s f × Free s f.next
-  FormalFree formal.IllFormed = Unit {0}
-  FormalFree formal.Short = Unit {0}
+  unfoldable pub FormalFree : Result Formal ReadError → Type 0
+  FormalFree (Ok f) = FreeDefault s f × Free s f.next
+  FormalFree (Err e) = Unit {0}
 
   given_free : (t : Token) (a : ℕ) → Free s a → (r : Ending) → default_end s a ≡ r → Ended in_definition r → FormalFree (given_formal s t a r)
   unfolding Ended FormalFree
-  given_free t a v (ending.Upto x y) e u = (λ g. (v, e), u)
-  given_free t a v ending.Torn e u = tt
-  given_free t a v ending.Short e u = tt
+  given_free t a v (Ok (x, y)) e u = (λ g. (v, e), u)
+  given_free t a v (Err x) e u = tt
 
   either_left : (a b d : Bool) → ((a && b) || (a && d)) ≡ true → a ≡ true
   either_left true b d e = refl
@@ -140,7 +135,7 @@ module _ (s : List ℕ) where
       formal-by t (next_at s t.end) (λ d. (kind_past (gap_end s t.end) Byte refl refl refl d (gap_past t.end p.1)).1))
       (λ e. tt)
 
-  pub read_free : (i : ℕ) (f : Formal) → formal_at s i ≡ formal.Whole f → Free s i → FreeDefault s f × Free s f.next
+  pub read_free : (i : ℕ) (f : Formal) → formal_at s i ≡ Ok f → Free s i → FreeDefault s f × Free s f.next
   unfolding FormalFree
   read_free i f e u = subst FormalFree e (formal_free i u)
 
@@ -158,13 +153,12 @@ module _ (s : List ℕ) where
   also_free f ill e h = tt
   also_free f (whole fs x) e h = (more e h.0, h.1)
 
-  formal_then : (r : FormalRead) (go : ℕ → Formals) → FormalFree r → ((i : ℕ) → Free s i → ListFree (go i)) → ListFree (by_formal r go)
+  formal_then : (r : Result Formal ReadError) (go : ℕ → Formals) → FormalFree r → ((i : ℕ) → Free s i → ListFree (go i)) → ListFree (by_formal r go)
   unfolding FormalFree ListFree
-  formal_then (formal.Whole f) go h g =
+  formal_then (Ok f) go h g =
       also_free f (cond f.last (whole [] f.next) (go f.next)) h.0
       (by_test ListFree f.last (λ e. (empty, h.1)) (λ e. g f.next h.1))
-  formal_then formal.IllFormed go h g = tt
-  formal_then formal.Short go h g = tt
+  formal_then (Err e) go h g = tt
 
   formals_from_lem : (n i : ℕ) → Free s i → ListFree (formals_from n s i)
   unfolding ListFree formals_from

@@ -8,6 +8,7 @@ use native.Mathlib.Omega.{arith}
 use lib.Dec.{eqb}
 use lib.ListN.{length}
 use borrow.Author.Tests.{eq-eqb, ne_eqb, eqb-true, not-true, not-false}
+use Rattle.std.specs.Prelude.{Ok, Err}
 use Rattle.lex.specs.declared.Fault.{Fault}
 use Rattle.lex.specs.declared.Mode.{Mode}
 use Rattle.lex.specs.declared.Token.{Token}
@@ -17,11 +18,10 @@ use Rattle.lex.proofs.Tests.{true_false}
 use Rattle.lex.proofs.Listing.{tokens_out}
 use Rattle.brackets.specs.Steps.{Step, on, done, torn}
 use Rattle.storing.proofs.Reading.{newline_stops, define_next}
-use Rattle.definition.specs.declared.Ending.{Ending}
-use Rattle.definition.specs.declared.Ending.TheVariants.{Upto, Torn}
 use Rattle.definition.specs.Extents.{mark_of, extent_in}
 use Rattle.definition.specs.Heads.{gap_in, gap_end}
-use Rattle.definition.specs.Lists.{step_at, by_step, default_in}
+use Rattle.definition.specs.Lists.{Ending, step_at, by_step, default_in}
+use Rattle.definition.specs.declared.ReadError.TheVariants.{IllFormed}
 
 -- what is not a quote mark leaves the mode
 plain_mode : (t : Token) → (t.kind ≡ Quote → ⊥) → between in_definition (marks_after false t) ≡ in_definition
@@ -59,7 +59,7 @@ module _ (s : List ℕ) (i : ℕ) where
   unfolding gap_end gap_in
   gap_out h = rw (tokens_out in_definition s i h)
 
-  pub default_out : (ks : List ℕ) → length s ≤ i → default_in s ks (tokens in_definition s i) ≡ Torn
+  pub default_out : (ks : List ℕ) → length s ≤ i → default_in s ks (tokens in_definition s i) ≡ Err IllFormed
   unfolding default_in
   default_out ks h = rw (tokens_out in_definition s i h)
 
@@ -99,7 +99,7 @@ module _ (s : List ℕ) (i : ℕ) where
               rw (define_next false m s i t f e h (λ k. true_false (eqb t.kind Newline) (eq-eqb t.kind Newline k) q), x)
 
     module _ (ks : List ℕ) where
-      pub default_newline : t.kind ≡ Newline → default_in s ks (tokens in_definition s i) ≡ Torn
+      pub default_newline : t.kind ≡ Newline → default_in s ks (tokens in_definition s i) ≡ Err IllFormed
       unfolding default_in
       default_newline k = rw (newline_stops false m s i t f e h k)
 
@@ -109,10 +109,10 @@ module _ (s : List ℕ) (i : ℕ) where
         unfolding default_in
         first = rw (define_next false m s i t f e h k)
 
-        pub default_done : step_at s t ks ≡ done → default_in s ks (tokens in_definition s i) ≡ Upto t.at t.end
+        pub default_done : step_at s t ks ≡ done → default_in s ks (tokens in_definition s i) ≡ Ok (t.at, t.end)
         default_done p = first ∙ ap (λ (r : Step). by_step r t (read_on s t)) p
 
-        pub default_torn : step_at s t ks ≡ torn → default_in s ks (tokens in_definition s i) ≡ Torn
+        pub default_torn : step_at s t ks ≡ torn → default_in s ks (tokens in_definition s i) ≡ Err IllFormed
         default_torn p = first ∙ ap (λ (r : Step). by_step r t (read_on s t)) p
 
         pub default_on : (ks' : List ℕ) → step_at s t ks ≡ on ks' → default_in s ks (tokens in_definition s i) ≡ default_in s ks' (tokens in_definition s t.end)

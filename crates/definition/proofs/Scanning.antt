@@ -6,14 +6,16 @@ use mathlib.Core.List.{List, [], ◌∷◌}
 use mathlib.Core.Path.{◌≡◌, refl, sym, ap, ◌∙◌}
 use native.Mathlib.Omega.{arith}
 use lib.ListN.{length}
+use Rattle.std.specs.Prelude.{Some, None, Result, Ok, Err}
+use Rattle.std.specs.Result.{result_ok}
 use Rattle.text.specs.Bytes.{same}
 use Rattle.brackets.specs.Stacks.{Full, Settled}
 use Rattle.brackets.proofs.Settling.{full_lent, settled_full, settled_over}
 use Rattle.definition.specs.Lists.{formal_at, Formals, ill, whole, formals_at, behind}
 use Rattle.definition.specs.Definitions.{formal_name, named, bad_among, bad_formals}
 use Rattle.definition.specs.declared.Formal.{Formal}
-use Rattle.definition.specs.declared.FormalRead.{FormalRead}
-use Rattle.definition.specs.declared.FormalRead.TheVariants as formal
+use Rattle.definition.specs.declared.ReadError.{ReadError}
+use Rattle.definition.specs.declared.ReadError.TheVariants.{IllFormed, NoRoom}
 use Rattle.definition.proofs.Formals.{formal_inside, formal_full, formals_ill, formals_out, Rest, formals_rest, behind_last, behind_more}
 
 ill_whole : {A : Type 0} (g : Formals) {fs : List Formal} {e : ℕ} → g ≡ ill → g ≡ whole fs e → A
@@ -47,18 +49,23 @@ module _ {K : ℕ → Type 0} {s o o' : List ℕ} {v : List Formal → Bool} {at
   pub scan_out : {A : Type 0} → length s ≤ i → K at → {fs : List Formal} {e : ℕ} → formals_at s at ≡ whole fs e → A
   scan_out l u {fs} {e} p = ill_whole (formals_at s i) (formals_out s i l) (a.left u fs e p).here
 
-  module _ {r : FormalRead} (h : Settled o' (length s) formal.Short (formal_at s i) r) where
-    pub scan_torn : {A : Type 0} → r ≡ formal.IllFormed → K at → {fs : List Formal} {e : ℕ} → formals_at s at ≡ whole fs e → A
-    scan_torn q u {fs} {e} p =
-        let z : r ≡ formal_at s i = settled_full h (λ y. let z : ◌≡◌ {A = ℕ} 0 1 = cc in omega arith) in
-        ill_whole (formals_at s i) (formals_ill s i (sym z ∙ q)) (a.left u fs e p).here
+  module _ {r : Result Formal ReadError} (h : Settled o' (length s) (Err NoRoom) (formal_at s i) r) where
+    -- none is read there only where there is no room for its brackets
+    pub scan_short : None ≡ result_ok r → K at → {fs : List Formal} {e : ℕ} → formals_at s at ≡ whole fs e → Full o (length s)
+    scan_short q u {fs} {e} p = full_lent o' o (length s) a.same_length (go r h q)
+      where
+        go : (r : Result Formal ReadError) → Settled o' (length s) (Err NoRoom) (formal_at s i) r → None ≡ result_ok r → Full o' (length s)
+        go (Ok f) h q = absurd (cc)
+        go (Err IllFormed) h q = ill_whole (formals_at s i) (formals_ill s i (sym (settled_full h (λ z. cc)))) (a.left u fs e p).here
+        go (Err NoRoom) h q = settled_over h refl (formal_full s i)
 
-    pub scan_short : r ≡ formal.Short → Full o (length s)
-    scan_short q = full_lent o' o (length s) a.same_length (settled_over h q (formal_full s i))
-
-    module _ {f : Formal} (q : r ≡ formal.Whole f) where
-      formal_read : formal_at s i ≡ formal.Whole f
-      formal_read = sym (settled_full h (λ y. let z : ◌≡◌ {A = ℕ} 0 1 = cc in omega arith)) ∙ q
+    module _ {f : Formal} (q : Some f ≡ result_ok r) where
+      pub formal_read : formal_at s i ≡ Ok f
+      formal_read = go r h q
+        where
+          go : (r : Result Formal ReadError) → Settled o' (length s) (Err NoRoom) (formal_at s i) r → Some f ≡ result_ok r → formal_at s i ≡ Ok f
+          go (Ok g) h q = let z : f ≡ g = cc in sym (settled_full h (λ z. cc)) ∙ ap (λ (g : Formal). Ok g) (sym z)
+          go (Err e) h q = absurd (cc)
 
       pub scan_less : i < length s → length s - f.next < length s - i
       scan_less l = omega (arith, (formal_inside s i f formal_read).0)
@@ -68,15 +75,15 @@ module _ {K : ℕ → Type 0} {s o o' : List ℕ} {v : List Formal → Bool} {at
         scan_rest = formals_rest s i f (a.left u fs e p).rest e formal_read (a.left u fs e p).here
 
         -- what v says of all, where it is known of the formals from i on
-        pub scan_said : (b : Bool) → (K i → formal_at s i ≡ formal.Whole f → (gs : List Formal) → behind s f ≡ whole gs e → v (f ∷ gs) ≡ b) → v fs ≡ b
+        pub scan_said : (b : Bool) → (K i → formal_at s i ≡ Ok f → (gs : List Formal) → behind s f ≡ whole gs e → v (f ∷ gs) ≡ b) → v fs ≡ b
         scan_said b g = let k = scan_rest in (a.left u fs e p).alike ∙ (ap v k.first ∙ g (a.known u) formal_read k.rest k.others)
 
         -- a buffer with no room for those behind
-        pub scan_over : (o'' : List ℕ) → length o'' ≡ length o' → (K i → formal_at s i ≡ formal.Whole f → (gs : List Formal) → behind s f ≡ whole gs e → Full o'' (length s)) → Full o (length s)
+        pub scan_over : (o'' : List ℕ) → length o'' ≡ length o' → (K i → formal_at s i ≡ Ok f → (gs : List Formal) → behind s f ≡ whole gs e → Full o'' (length s)) → Full o (length s)
         scan_over o'' z g = let k = scan_rest in full_lent o'' o (length s) (z ∙ a.same_length) (g (a.known u) formal_read k.rest k.others)
 
-      module _ (g : K i → formal_at s i ≡ formal.Whole f → (gs : List Formal) (e : ℕ) → behind s f ≡ whole gs e → v (f ∷ gs) ≡ v gs) where
-        pub scan_next : (K i → formal_at s i ≡ formal.Whole f → K f.next) → {o'' : List ℕ} → f.last ≡ false → length o'' ≡ length o' → Scanning K s o o'' v at f.next
+      module _ (g : K i → formal_at s i ≡ Ok f → (gs : List Formal) (e : ℕ) → behind s f ≡ whole gs e → v (f ∷ gs) ≡ v gs) where
+        pub scan_next : (K i → formal_at s i ≡ Ok f → K f.next) → {o'' : List ℕ} → f.last ≡ false → length o'' ≡ length o' → Scanning K s o o'' v at f.next
         scan_next n l z =
             record {
               same_length = z ∙ a.same_length;

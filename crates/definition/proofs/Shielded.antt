@@ -35,11 +35,11 @@ use Rattle.judging.proofs.Forming.{spaced_at}
 use Rattle.judging.proofs.Storable.{stored_made}
 use Rattle.judging.proofs.NothingMoreHeld.{nothing_more_held}
 use Rattle.definition.specs.Extents.{Free}
-use Rattle.definition.specs.Lists.{step_at, by_step, default_in, default_end}
+use Rattle.definition.specs.Lists.{Ending, step_at, by_step, default_in, default_end}
 use Rattle.definition.specs.Answers.{FreeDefault}
-use Rattle.definition.specs.declared.Ending.{Ending}
-use Rattle.definition.specs.declared.Ending.TheVariants.{Upto, Torn}
 use Rattle.definition.specs.declared.Formal.{Formal}
+use Rattle.definition.specs.declared.ReadError.TheVariants.{IllFormed}
+use Rattle.std.specs.Prelude.{Ok, Err}
 use Rattle.definition.proofs.Reading.{default_out, default_newline, default_on, default_done, default_torn}
 use Rattle.definition.proofs.Onward.{first_free, plain_step}
 
@@ -139,8 +139,13 @@ clear : (c r : Bool) → cond c true r ≡ false → (c ≡ false) × (r ≡ fal
 clear true r e = true_false true refl e
 clear false r e = (refl, e)
 
-torn_upto : {A : Type 0} {x y : ℕ} → Torn ≡ Upto x y → A
-torn_upto e = absurd (let z : ◌≡◌ {A = ℕ} 0 1 = cc in omega arith)
+-- where a default ends
+abbrev stop_of : Ending → ℕ
+stop_of (Ok p) = p.0
+stop_of (Err e) = 0
+
+torn_upto : {A : Type 0} {x y : ℕ} → ◌≡◌ {A = Ending} (Err IllFormed) (Ok (x, y)) → A
+torn_upto e = absurd (cc)
 
 free_kind : (a b c : Bool) → a ≡ false → (b || c) ≡ false → (h : Bool) → (not (a || (b || c)) && h) ≡ false → h ≡ false
 free_kind a b c p q h e = rw (p, q) at e
@@ -211,21 +216,21 @@ module _ (s : List ℕ) (x : ℕ) where
   -- ---- all of it
 
   -- it ends no earlier than it starts
-  ends_past : {y : ℕ} (m : Mode) (i : ℕ) (ks : List ℕ) → default_in s ks (tokens m s i) ≡ Upto x y → i ≤ x
+  ends_past : {y : ℕ} (m : Mode) (i : ℕ) (ks : List ℕ) → default_in s ks (tokens m s i) ≡ Ok (x, y) → i ≤ x
   unfolding default_in
   ends_past {y} =
-      by_tokens s (λ (m : Mode) (i : ℕ) (ts : List Token). (ks : List ℕ) → default_in s ks ts ≡ Upto x y → i ≤ x)
+      by_tokens s (λ (m : Mode) (i : ℕ) (ts : List Token). (ks : List ℕ) → default_in s ks ts ≡ Ok (x, y) → i ≤ x)
       (λ m i l ks e. torn_upto e) (λ m i l n ks e. torn_upto e)
       (λ m i l n r ks. go (token_at m s i) i (token-at m s i) (token_ends m s i l) (step_at s (token_at m s i) ks) (λ js. default_in s js (tokens (mode_after m (token_at m s i)) s (token_at m s i).end)) r)
     where
-      go : (t : Token) (i : ℕ) → t.at ≡ i → i < t.end → (p : Step) (f : List ℕ → Ending) → ((js : List ℕ) → f js ≡ Upto x y → t.end ≤ x) → by_step p t f ≡ Upto x y → i ≤ x
+      go : (t : Token) (i : ℕ) → t.at ≡ i → i < t.end → (p : Step) (f : List ℕ → Ending) → ((js : List ℕ) → f js ≡ Ok (x, y) → t.end ≤ x) → by_step p t f ≡ Ok (x, y) → i ≤ x
       go t i a b (on js) f r e = let h : t.end ≤ x = r js e in omega arith
-      go t i a b done f r e = let h : t.at ≡ x = cc in omega arith
+      go t i a b done f r e = let h : t.at ≡ x = ap stop_of e in omega arith
       go t i a b torn f r e = torn_upto e
 
   module _ (y : ℕ) where
     abbrev Fine : ℕ → List ℕ → Type 0
-    Fine i ks = Free s i → default_in s ks (tokens in_definition s i) ≡ Upto x y → grave_in s x (tokens in_definition s i) ≡ false → skim bare ks (rest i) ≡ false
+    Fine i ks = Free s i → default_in s ks (tokens in_definition s i) ≡ Ok (x, y) → grave_in s x (tokens in_definition s i) ≡ false → skim bare ks (rest i) ≡ false
 
     module _ (i : ℕ) (ks : List ℕ) (l : i < length s) (k : (token_at in_definition s i).kind ≡ Newline → ⊥) (f : (js : List ℕ) → Fine (token_at in_definition s i).end js) where
       abbrev u : Token
@@ -238,7 +243,7 @@ module _ (s : List ℕ) (x : ℕ) where
           let ts = tokens in_definition s u.end in
           let mk : marks_after false u ≡ false = rw q in
           let n : tokens in_definition s i ≡ u ∷ ts = define_next false in_definition s i u refl refl l k ∙ ap (λ (b : Bool). u ∷ tokens (between in_definition b) s u.end) mk in
-          let b : default_in s js ts ≡ Upto x y = sym (default_on s i in_definition u l refl refl ks k js p) ∙ d in
+          let b : default_in s js ts ≡ Ok (x, y) = sym (default_on s i in_definition u l refl refl ks k js p) ∙ d in
           let h : u.end ≤ x = ends_past in_definition u.end js b in
           let o : i < u.end = token_ends in_definition s i l in
           let c : u.at < x = rw (token-at in_definition s i) (omega arith) in
@@ -251,13 +256,13 @@ module _ (s : List ℕ) (x : ℕ) where
       fine_done : step_at s u ks ≡ done → Fine i ks
       unfolding skim
       fine_done p a d g =
-          let e : Upto u.at u.end ≡ Upto x y = sym (default_done s i in_definition u l refl refl ks k p) ∙ d in
-          let h : u.at ≡ x = cc in
+          let e : ◌≡◌ {A = Ending} (Ok (u.at, u.end)) (Ok (x, y)) = sym (default_done s i in_definition u l refl refl ks k p) ∙ d in
+          let h : u.at ≡ x = ap stop_of e in
           let o : u.at ≡ i = token-at in_definition s i in
           ap (skim bare ks) (pieces_past s x i false (omega arith)) ∙ ap is_open (at_done s u ks p)
 
       fine_torn : step_at s u ks ≡ torn → Fine i ks
-      fine_torn p a d g = let e : Torn ≡ Upto x y = sym (default_torn s i in_definition u l refl refl ks k p) ∙ d in torn_upto e
+      fine_torn p a d g = let e : ◌≡◌ {A = Ending} (Err IllFormed) (Ok (x, y)) = sym (default_torn s i in_definition u l refl refl ks k p) ∙ d in torn_upto e
 
       fine_next : Fine i ks
       fine_next = go (step_at s u ks) refl
@@ -282,7 +287,7 @@ module _ (s : List ℕ) (x : ℕ) where
             fine_next i ks l (λ e. true_false (is Newline t) (eq-eqb t.kind Newline e) q) (f t.end (omega arith))
 
 -- a default that starts at i and ends at x
-shielded : (s : List ℕ) (i x : ℕ) {y : ℕ} → Free s i → default_end s i ≡ Upto x y → has_grave s i x ≡ false → skim bare [] (stored s i x) ≡ false
+shielded : (s : List ℕ) (i x : ℕ) {y : ℕ} → Free s i → default_end s i ≡ Ok (x, y) → has_grave s i x ≡ false → skim bare [] (stored s i x) ≡ false
 unfolding stored default_end has_grave
 shielded s i x {y} u e g =
     right_skim (trim_left (rest s x i)) bare [] ∙ (left_skim [] (rest s x i) ∙ fine s x y (length s) i (omega arith) [] u e g)

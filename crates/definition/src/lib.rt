@@ -1,7 +1,7 @@
 // Reading a `define` (document 01, "Macros"): its extent, what bars it, its head and formal list, and whether it is bad.
 #![tactic(auto)]
 
-ghost use Rattle.std.specs.Prelude.{◌≡◌, List, [], ℕ, ◌*◌, ◌≤◌, length};
+ghost use Rattle.std.specs.Prelude.{Err, None, ◌≡◌, List, [], ℕ, ◌*◌, ◌≤◌, length};
 ghost use Rattle.lex.specs.Faults.{no_fault};
 ghost use Rattle.text.specs.Bytes.{part};
 ghost use Rattle.storing.specs.Stored.{stored};
@@ -15,7 +15,6 @@ ghost use Rattle.definition.specs.Lists.{step_at, default_end, given_formal, for
 ghost use Rattle.definition.specs.Definitions.{bad_formal, named, bad_among, bad_formals, is_bad, shape_by, judged_by, definition_at};
 ghost use Rattle.definition.specs.Answers.{FreeDefault, list_of, judged_of};
 
-use afresh::Verdict;
 use brackets::{Stepped, step};
 use judging::judge_stored;
 use lex::{
@@ -44,12 +43,11 @@ pub struct Head {
     pub next: usize,
 }
 
-// Where a default ends, and past the `,` or `)` that ends it.
-#[derive(Clone, Copy)]
-pub enum Ending {
-    Upto(usize, usize),
-    Torn,
-    Short,
+// Why a default, a formal or a formal list was not read: it is ill-formed, or the lent bytes have no room for its brackets.
+#[derive(Clone, Copy, PartialEq, Eq)]
+pub enum ReadError {
+    IllFormed,
+    NoRoom,
 }
 
 // A formal's name; its default, where one is given; the index past the `,` or `)` behind it; whether that is the `)`.
@@ -62,21 +60,6 @@ pub struct Formal {
     pub stop: usize,
     pub next: usize,
     pub last: bool,
-}
-
-#[derive(Clone, Copy)]
-pub enum FormalRead {
-    Whole(Formal),
-    IllFormed,
-    Short,
-}
-
-// The number of formals of a list and its end.
-#[derive(Clone, Copy)]
-pub enum ListRead {
-    Whole(usize, usize),
-    IllFormed,
-    Short,
 }
 
 // A definition: barred by 2 to 6 at a place; bad (11) or good, with its end; or the lent bytes are too few to tell.
@@ -224,65 +207,54 @@ fn step_at(s: &[u8], t: Token, stack: &mut [u8], depth: usize) -> Stepped
     Stepped::On(depth)
 }
 
-// Where the default that starts at `at` ends.
-fn default_end(s: &[u8], at: usize, stack: &mut [u8]) -> Ending
-    ensures { Settled stack.old (length s.now) Ending.Short (default_end s.now at) result }
+// Where the default that starts at `at` ends, and past the `,` or `)` that ends it.
+fn default_end(s: &[u8], at: usize, stack: &mut [u8]) -> Result<(usize, usize), ReadError>
+    ensures { Settled stack.old (length s.now) (Err ReadError.NoRoom) (default_end s.now at) result }
 {
     let mut i = at;
     let mut depth = 0;
     while i < s.len() {
         let t = token_at(s, i, in_definition(false));
         if t.kind == NEWLINE {
-            return Ending::Torn;
+            return Err(ReadError::IllFormed);
         }
         let r = step_at(s, t, stack, depth);
         match r {
             Stepped::On(d) => {
                 depth = d;
                 i = t.end;
-                continue;
             }
-            Stepped::Done => {
-                return Ending::Upto(t.at, t.end);
-            }
-            Stepped::Torn => {
-                return Ending::Torn;
-            }
-            Stepped::Short => {
-                return Ending::Short;
-            }
+            Stepped::Done => return Ok((t.at, t.end)),
+            Stepped::Torn => return Err(ReadError::IllFormed),
+            Stepped::Short => return Err(ReadError::NoRoom),
         }
     }
-    Ending::Torn
+    Err(ReadError::IllFormed)
 }
 
 // The formal `t`, whose default starts at `at`.
-fn given_formal(s: &[u8], t: Token, at: usize, stack: &mut [u8]) -> FormalRead
-    ensures { Settled stack.old (length s.now) FormalRead.Short (given_formal s.now t at (default_end s.now at)) result }
+fn given_formal(s: &[u8], t: Token, at: usize, stack: &mut [u8]) -> Result<Formal, ReadError>
+    ensures { Settled stack.old (length s.now) (Err ReadError.NoRoom) (given_formal s.now t at (default_end s.now at)) result }
 {
-    let r = default_end(s, at, stack);
-    match r {
-        Ending::Upto(e, x) => FormalRead::Whole(Formal {
-            from: t.from,
-            end: t.end,
-            given: true,
-            first: at,
-            stop: e,
-            next: x,
-            last: peek(s, e) == 41,
-        }),
-        Ending::Torn => FormalRead::IllFormed,
-        Ending::Short => FormalRead::Short,
-    }
+    let (stop, next) = default_end(s, at, stack)?;
+    Ok(Formal {
+        from: t.from,
+        end: t.end,
+        given: true,
+        first: at,
+        stop,
+        next,
+        last: peek(s, stop) == 41,
+    })
 }
 
 // The formal at `at`.
-pub fn formal_at(s: &[u8], at: usize, stack: &mut [u8]) -> FormalRead
-    ensures { Settled stack.old (length s.now) FormalRead.Short (formal_at s.now at) result }
+pub fn formal_at(s: &[u8], at: usize, stack: &mut [u8]) -> Result<Formal, ReadError>
+    ensures { Settled stack.old (length s.now) (Err ReadError.NoRoom) (formal_at s.now at) result }
 {
     let t = token_at(s, gap_end(s, at), in_definition(false));
     if t.kind != NAME {
-        return FormalRead::IllFormed;
+        return Err(ReadError::IllFormed);
     }
     let u = token_at(s, gap_end(s, t.end), in_definition(false));
     if is_byte(s, u, 61) {
@@ -290,7 +262,7 @@ pub fn formal_at(s: &[u8], at: usize, stack: &mut [u8]) -> FormalRead
     }
     let last = is_byte(s, u, 41);
     if is_byte(s, u, 44) | last {
-        return FormalRead::Whole(Formal {
+        return Ok(Formal {
             from: t.from,
             end: t.end,
             given: false,
@@ -300,164 +272,119 @@ pub fn formal_at(s: &[u8], at: usize, stack: &mut [u8]) -> FormalRead
             last,
         });
     }
-    FormalRead::IllFormed
+    Err(ReadError::IllFormed)
 }
 
-// The formal list from `at` on.
-pub fn list_at(s: &[u8], at: usize, stack: &mut [u8]) -> ListRead
-    ensures { Settled stack.old (length s.now) ListRead.Short (list_of (formals_at s.now at)) result }
+// The number of formals of the list from `at` on, and its end.
+pub fn list_at(s: &[u8], at: usize, stack: &mut [u8]) -> Result<(usize, usize), ReadError>
+    ensures { Settled stack.old (length s.now) (Err ReadError.NoRoom) (list_of (formals_at s.now at)) result }
 {
     let mut i = at;
     let mut n = 0;
     while i < s.len() {
-        let r = formal_at(s, i, stack);
-        match r {
-            FormalRead::Whole(f) => {
-                n += 1;
-                i = f.next;
-                if f.last {
-                    return ListRead::Whole(n, i);
-                }
-                continue;
-            }
-            FormalRead::IllFormed => {
-                return ListRead::IllFormed;
-            }
-            FormalRead::Short => {
-                return ListRead::Short;
-            }
+        let f = formal_at(s, i, stack)?;
+        n += 1;
+        i = f.next;
+        if f.last {
+            return Ok((n, i));
         }
     }
-    ListRead::IllFormed
+    Err(ReadError::IllFormed)
 }
 
 // Whether a formal of the list from `at` on has the name from `from` to before `end`.
-fn named_later(s: &[u8], from: usize, end: usize, at: usize, stack: &mut [u8]) -> Verdict
-    ensures { (fs : List Formal) (e : ℕ) → formals_at s.now at ≡ whole fs e → Settled stack.old (length s.now) Verdict.Short (verdict_of (named s.now (part s.now from end) fs)) result }
+fn named_later(s: &[u8], from: usize, end: usize, at: usize, stack: &mut [u8]) -> Option<bool>
+    ensures { (fs : List Formal) (e : ℕ) → formals_at s.now at ≡ whole fs e → Settled stack.old (length s.now) None (verdict_of (named s.now (part s.now from end) fs)) result }
 {
     let mut i = at;
     while i < s.len() {
-        let r = formal_at(s, i, stack);
-        match r {
-            FormalRead::Whole(f) => {
-                if same(part_of(s, from, end), part_of(s, f.from, f.end)) {
-                    return Verdict::Bad;
-                }
-                if f.last {
-                    return Verdict::Good;
-                }
-                i = f.next;
-                continue;
-            }
-            FormalRead::IllFormed => {
-                return Verdict::Good;
-            }
-            FormalRead::Short => {
-                return Verdict::Short;
-            }
+        let f = formal_at(s, i, stack).ok()?;
+        if same(part_of(s, from, end), part_of(s, f.from, f.end)) {
+            return Some(true);
         }
+        if f.last {
+            return Some(false);
+        }
+        i = f.next;
     }
-    Verdict::Good
+    Some(false)
 }
 
 // Whether the default of a formal that was read, which nothing bars, is bad.
-fn default_verdict(s: &[u8], f: Formal, name: &mut [u8], stack: &mut [u8]) -> Verdict
+fn default_verdict(s: &[u8], f: Formal, name: &mut [u8], stack: &mut [u8]) -> Option<bool>
     requires { 1025 ≤ length name.old }
-    ensures { FreeDefault s.now f → Settled stack.old (length s.now) Verdict.Short (verdict_of (bad_formal s.now f)) result }
+    ensures { FreeDefault s.now f → Settled stack.old (length s.now) None (verdict_of (bad_formal s.now f)) result }
 {
     if !f.given {
-        return Verdict::Good;
+        return Some(false);
     }
     if has_grave(s, f.first, f.stop) {
-        return Verdict::Bad;
+        return Some(true);
     }
     judge_stored(s, f.first, f.stop, false, name, stack)
 }
 
 // Whether a formal is bad: its default, or one of those behind it has its name.
-fn formal_verdict(s: &[u8], f: Formal, name: &mut [u8], stack: &mut [u8]) -> Verdict
+fn formal_verdict(s: &[u8], f: Formal, name: &mut [u8], stack: &mut [u8]) -> Option<bool>
     requires { 1025 ≤ length name.old }
-    ensures { (fs : List Formal) (e : ℕ) → behind s.now f ≡ whole fs e → FreeDefault s.now f → Settled stack.old (length s.now) Verdict.Short (verdict_of (bad_among s.now f fs)) result }
+    ensures { (fs : List Formal) (e : ℕ) → behind s.now f ≡ whole fs e → FreeDefault s.now f → Settled stack.old (length s.now) None (verdict_of (bad_among s.now f fs)) result }
 {
-    let v = default_verdict(s, f, name, stack);
-    match v {
-        Verdict::Good => {
-            if f.last {
-                return Verdict::Good;
-            }
-            named_later(s, f.from, f.end, f.next, stack)
-        }
-        Verdict::Bad => Verdict::Bad,
-        Verdict::Short => Verdict::Short,
+    if default_verdict(s, f, name, stack)? {
+        return Some(true);
     }
+    if f.last {
+        return Some(false);
+    }
+    named_later(s, f.from, f.end, f.next, stack)
 }
 
 // Whether a formal of the list from `at` on is bad.
-fn formals_verdict(s: &[u8], at: usize, name: &mut [u8], stack: &mut [u8]) -> Verdict
+fn formals_verdict(s: &[u8], at: usize, name: &mut [u8], stack: &mut [u8]) -> Option<bool>
     requires { 1025 ≤ length name.old }
-    ensures { (fs : List Formal) (e : ℕ) → formals_at s.now at ≡ whole fs e → Free s.now at → Settled stack.old (length s.now) Verdict.Short (verdict_of (bad_formals s.now fs)) result }
+    ensures { (fs : List Formal) (e : ℕ) → formals_at s.now at ≡ whole fs e → Free s.now at → Settled stack.old (length s.now) None (verdict_of (bad_formals s.now fs)) result }
 {
     let mut i = at;
     while i < s.len() {
-        let r = formal_at(s, i, stack);
-        match r {
-            FormalRead::Whole(f) => {
-                let v = formal_verdict(s, f, name, stack);
-                match v {
-                    Verdict::Good => {
-                        if f.last {
-                            return Verdict::Good;
-                        }
-                        i = f.next;
-                        continue;
-                    }
-                    Verdict::Bad => {
-                        return Verdict::Bad;
-                    }
-                    Verdict::Short => {
-                        return Verdict::Short;
-                    }
-                }
-            }
-            FormalRead::IllFormed => {
-                return Verdict::Good;
-            }
-            FormalRead::Short => {
-                return Verdict::Short;
-            }
+        let f = formal_at(s, i, stack).ok()?;
+        if formal_verdict(s, f, name, stack)? {
+            return Some(true);
         }
+        if f.last {
+            return Some(false);
+        }
+        i = f.next;
     }
-    Verdict::Good
+    Some(false)
 }
 
 // Whether the macro text from `at` to before `end`, which nothing bars, is bad.
-fn text_verdict(s: &[u8], at: usize, end: usize, name: &mut [u8], stack: &mut [u8]) -> Verdict
+fn text_verdict(s: &[u8], at: usize, end: usize, name: &mut [u8], stack: &mut [u8]) -> Option<bool>
     requires { 1025 ≤ length name.old }
-    ensures { Free s.now at → Settled stack.old (length s.now) Verdict.Short (verdict_of (bad_text (stored s.now at end))) result }
+    ensures { Free s.now at → Settled stack.old (length s.now) None (verdict_of (bad_text (stored s.now at end))) result }
 {
     judge_stored(s, at, end, true, name, stack)
 }
 
-// The formals of a head and where the macro text begins.
-pub fn shape_of(s: &[u8], h: Head, stack: &mut [u8]) -> ListRead
-    ensures { Settled stack.old (length s.now) ListRead.Short (list_of (shape_by s.now h)) result }
+// The number of formals of a head, and where the macro text begins.
+pub fn shape_of(s: &[u8], h: Head, stack: &mut [u8]) -> Result<(usize, usize), ReadError>
+    ensures { Settled stack.old (length s.now) (Err ReadError.NoRoom) (list_of (shape_by s.now h)) result }
 {
     if !h.whole {
-        return ListRead::IllFormed;
+        return Err(ReadError::IllFormed);
     }
     if !h.listed {
-        return ListRead::Whole(0, h.next);
+        return Ok((0, h.next));
     }
     list_at(s, h.next, stack)
 }
 
 // Whether the formals of a head are bad.
-fn head_verdict(s: &[u8], h: Head, name: &mut [u8], stack: &mut [u8]) -> Verdict
+fn head_verdict(s: &[u8], h: Head, name: &mut [u8], stack: &mut [u8]) -> Option<bool>
     requires { 1025 ≤ length name.old }
-    ensures { (fs : List Formal) (x : ℕ) → shape_by s.now h ≡ whole fs x → Free s.now h.next → Settled stack.old (length s.now) Verdict.Short (verdict_of (bad_formals s.now fs)) result }
+    ensures { (fs : List Formal) (x : ℕ) → shape_by s.now h ≡ whole fs x → Free s.now h.next → Settled stack.old (length s.now) None (verdict_of (bad_formals s.now fs)) result }
 {
     if !h.listed {
-        return Verdict::Good;
+        return Some(false);
     }
     formals_verdict(s, h.next, name, stack)
 }
@@ -471,22 +398,20 @@ fn verdict_of(
     end: usize,
     name: &mut [u8],
     stack: &mut [u8],
-) -> Verdict
+) -> Option<bool>
     requires { 1025 ≤ length name.old }
-    ensures { (fs : List Formal) → shape_by s.now h ≡ whole fs text → count ≡ length fs → Free s.now h.next → Settled stack.old (length s.now) Verdict.Short (verdict_of (is_bad s.now (part s.now h.from h.end) fs (stored s.now text end))) result }
+    ensures { (fs : List Formal) → shape_by s.now h ≡ whole fs text → count ≡ length fs → Free s.now h.next → Settled stack.old (length s.now) None (verdict_of (is_bad s.now (part s.now h.from h.end) fs (stored s.now text end))) result }
 {
     if 0 < directive_of(part_of(s, h.from, h.end)) {
-        return Verdict::Bad;
+        return Some(true);
     }
     if 16 < count {
-        return Verdict::Bad;
+        return Some(true);
     }
-    let v = head_verdict(s, h, name, stack);
-    match v {
-        Verdict::Good => text_verdict(s, text, end, name, stack),
-        Verdict::Bad => Verdict::Bad,
-        Verdict::Short => Verdict::Short,
+    if head_verdict(s, h, name, stack)? {
+        return Some(true);
     }
+    text_verdict(s, text, end, name, stack)
 }
 
 // Judges a definition that nothing bars and whose head is whole.
@@ -502,11 +427,10 @@ fn judge_whole(
     requires { 1025 ≤ length name.old }
     ensures { (fs : List Formal) → shape_by s.now h ≡ whole fs text → count ≡ length fs → Free s.now h.next → Settled stack.old (length s.now) Judged.Short (judged_of (judged_by s.now h end (whole fs text))) result }
 {
-    let v = verdict_of(s, h, count, text, end, name, stack);
-    match v {
-        Verdict::Good => Judged::Good(end),
-        Verdict::Bad => Judged::Bad(end),
-        Verdict::Short => Judged::Short,
+    match verdict_of(s, h, count, text, end, name, stack) {
+        Some(true) => Judged::Bad(end),
+        Some(false) => Judged::Good(end),
+        None => Judged::Short,
     }
 }
 
@@ -517,22 +441,21 @@ pub fn judge_definition(s: &[u8], at: usize, name: &mut [u8], stack: &mut [u8]) 
 {
     let w = extent_at(s, at);
     let h = head_at(s, at);
-    let shape = shape_of(s, h, stack);
-    match shape {
-        ListRead::Whole(n, text) => {
+    match shape_of(s, h, stack) {
+        Ok((n, text)) => {
             let f = bars_of(w, text);
             if f.number != 0 {
                 return Judged::Barred(f.number, f.place);
             }
             judge_whole(s, h, n, text, w.end, name, stack)
         }
-        ListRead::IllFormed => {
+        Err(ReadError::IllFormed) => {
             let f = bars_of(w, s.len());
             if f.number != 0 {
                 return Judged::Barred(f.number, f.place);
             }
             Judged::Bad(w.end)
         }
-        ListRead::Short => Judged::Short,
+        Err(ReadError::NoRoom) => Judged::Short,
     }
 }

@@ -12,8 +12,9 @@ use Rattle.storing.specs.Stored.{stored}
 use Rattle.definition.specs.declared.Formal.{Formal}
 use Rattle.definition.specs.Definitions.{Parameter, Macro, macro, parameter_of, parameters_of}
 use Rattle.form.specs.Forms.{two, default_by, default_form, parameter_form, parameter_forms, list_form, head_form, form_of, text_start}
-use Rattle.form.specs.declared.FormWritten.{FormWritten}
-use Rattle.form.specs.declared.FormWritten.TheVariants as written
+use Rattle.std.specs.Prelude.{Result, Ok, Err}
+use Rattle.definition.specs.declared.ReadError.{ReadError}
+use Rattle.definition.specs.declared.ReadError.TheVariants.{IllFormed, NoRoom}
 use Rattle.form.specs.Putting.{Put, FormAt, FormBy}
 use Rattle.form.proofs.Pushing.{put_then}
 
@@ -78,9 +79,9 @@ module _ (n : List ℕ) (ps : List Parameter) (t o : List ℕ) where
   form_short (inr b) = inr (omega arith)
 
 -- the macro said in other words, and work bytes of the same length
-pub form_as : (r : FormWritten) (s v w : List ℕ) {m m' : Macro} (o o' : List ℕ) → length v ≡ length w → m ≡ m' → FormBy r s v m o o'
+pub form_as : (r : Result (ℕ × ℕ) ReadError) (s v w : List ℕ) {m m' : Macro} (o o' : List ℕ) → length v ≡ length w → m ≡ m' → FormBy r s v m o o'
     → FormBy r s w m' o o'
-form_as (written.Upto k x) s v w o o' z e b = subst (λ (m : Macro). FormAt m o o' k x) e b
-form_as written.Short s v w o o' z e (inl l) = inl (omega arith)
-form_as written.Short s v w o o' z e (inr l) = inr (rw (← e) l)
-form_as written.IllFormed s v w o o' z e b = b
+form_as (Ok (k, x)) s v w o o' z e b = subst (λ (m : Macro). FormAt m o o' k x) e b
+form_as (Err NoRoom) s v w o o' z e (inl l) = inl (omega arith)
+form_as (Err NoRoom) s v w o o' z e (inr l) = inr (rw (← e) l)
+form_as (Err IllFormed) s v w o o' z e b = b

@@ -6,10 +6,9 @@ use mathlib.Core.Logic.{◌⊎◌, inl, inr}
 use mathlib.Core.Path.{◌≡◌, refl, ap, sym, ◌∙◌, subst}
 use native.Mathlib.Numerals.{add-one}
 use native.Mathlib.Omega.{arith}
-use lib.ListN.{length, set, length-append, length-set}
+use lib.ListN.{length, set, length-append}
 use lib.Seq.{take-suc-set}
-use Rattle.storing.specs.declared.Stored.{Stored}
-use Rattle.storing.specs.declared.Stored.TheVariants.{Upto, Short}
+use Rattle.std.specs.Prelude.{Option, Some, None}
 use Rattle.form.specs.Putting.{Put, PutBy}
 
 -- nothing, and one byte
@@ -36,35 +35,27 @@ module _ {o o' : List ℕ} {n m : ℕ} {xs : List ℕ} (a : Put o o' n m xs) (z 
   no_room : (ys : List ℕ) → length o' < m + length ys → length o < n + length (xs ++ ys)
   no_room ys b = rw length-append (omega (arith, a.count))
 
-  pub by_then : {lack lack' : Type 0} → (lack → lack') → (o'' ys : List ℕ) {zs : List ℕ} → xs ++ ys ≡ zs → (r : Stored) → PutBy r lack o' o'' m ys
+  pub by_then : {lack lack' : Type 0} → (lack → lack') → (o'' ys : List ℕ) {zs : List ℕ} → xs ++ ys ≡ zs → (r : Option ℕ) → PutBy r lack o' o'' m ys
       → PutBy r lack' o o'' n zs
-  by_then f o'' ys e (Upto k) b = subst (λ (w : List ℕ). Put o o'' n k w) e (put_then b)
-  by_then f o'' ys e Short (inl x) = inl (f x)
-  by_then f o'' ys e Short (inr b) = inr (rw (← e) (no_room ys b))
+  by_then f o'' ys e (Some k) b = subst (λ (w : List ℕ). Put o o'' n k w) e (put_then b)
+  by_then f o'' ys e None (inl x) = inl (f x)
+  by_then f o'' ys e None (inr b) = inr (rw (← e) (no_room ys b))
 
 -- the bytes and the lack said in other words
-pub put_as : (r : Stored) {lack lack' : Type 0} (o o' : List ℕ) (n : ℕ) {xs ys : List ℕ} → (lack → lack') → xs ≡ ys → PutBy r lack o o' n xs
+pub put_as : (r : Option ℕ) {lack lack' : Type 0} (o o' : List ℕ) (n : ℕ) {xs ys : List ℕ} → (lack → lack') → xs ≡ ys → PutBy r lack o o' n xs
     → PutBy r lack' o o' n ys
-put_as (Upto m) o o' n f e b = subst (λ (w : List ℕ). Put o o' n m w) e b
-put_as Short o o' n f e (inl x) = inl (f x)
-put_as Short o o' n f e (inr b) = inr (rw (← e) b)
+put_as (Some m) o o' n f e b = subst (λ (w : List ℕ). Put o o' n m w) e b
+put_as None o o' n f e (inl x) = inl (f x)
+put_as None o o' n f e (inr b) = inr (rw (← e) b)
 
--- xs, by the answer of a call
-module _ (r : Stored) (lack : Type 0) (o o' : List ℕ) (n : ℕ) (xs : List ℕ) (h : PutBy r lack o o' n xs) where
-  pub put_so : {m : ℕ} → r ≡ Upto m → Put o o' n m xs
-  put_so q = subst (λ (x : Stored). PutBy x lack o o' n xs) q h
-
-  pub put_short : r ≡ Short → lack ⊎ (length o < n + length xs)
-  put_short q = subst (λ (x : Stored). PutBy x lack o o' n xs) q h
-
-  module _ {lack' : Type 0} (f : lack → lack') (ys : List ℕ) {zs : List ℕ} (e : xs ++ ys ≡ zs) where
-    longer : lack ⊎ (length o < n + length xs) → lack' ⊎ (length o < n + length zs)
-    longer (inl x) = inl (f x)
-    longer (inr b) = inr (rw (← e, length-append) (omega arith))
-
-    -- no room for them, nor for more
-    pub put_not : r ≡ Short → lack' ⊎ (length o < n + length zs)
-    put_not q = longer (put_short q)
+-- no room for xs, nor for more
+module _ (r : Option ℕ) {lack lack' : Type 0} (o o' : List ℕ) (n : ℕ) (xs : List ℕ) (h : PutBy r lack o o' n xs) where
+  pub put_not : r ≡ None → (lack → lack') → (ys : List ℕ) {zs : List ℕ} → xs ++ ys ≡ zs → lack' ⊎ (length o < n + length zs)
+  put_not q f ys {zs} e = go (subst (λ (x : Option ℕ). PutBy x lack o o' n xs) q h)
+    where
+      go : lack ⊎ (length o < n + length xs) → lack' ⊎ (length o < n + length zs)
+      go (inl x) = inl (f x)
+      go (inr b) = inr (rw (← e, length-append) (omega arith))
 
 -- What a loop has put so far: past it comes `rest`, and all of it is `whole`.
 pub record Pushing (o o' : List ℕ) (n k : ℕ) (rest whole : List ℕ) : Type 0 where
@@ -96,11 +87,3 @@ module _ {o o' : List ℕ} {n k : ℕ} {rest whole : List ℕ} (a : Pushing o o'
     -- or there is no room for it
     pub pushing_short : length o' < k + length ys → length o < n + length whole
     pushing_short b = rw (← a.splits) (no_room a.put a.same_length rest (rw (e, length-append) (omega arith)))
-
--- a loop that puts one byte in each turn
-module _ {o o' : List ℕ} {n k b : ℕ} {rest left whole : List ℕ} (a : Pushing o o' n k rest whole) (e : rest ≡ b ∷ left) where
-  pub pushing_byte : k < length o' → Pushing o (set o' k b) n (k + 1) left whole
-  pushing_byte l = pushing_next a (b ∷ []) left e (length-set o' k b) (put_one o' k b l)
-
-  pub pushing_full : length o' ≤ k → length o < n + length whole
-  pushing_full l = pushing_short a (b ∷ []) left e (omega arith)

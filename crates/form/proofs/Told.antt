@@ -3,13 +3,17 @@
 use Prim.Native.Nat.{ℕ, ◌<◌, ◌≤◌}
 use mathlib.Core.Bool.{Bool, true, false, cond}
 use mathlib.Core.List.{List}
+use mathlib.Core.Logic.{inl}
 use mathlib.Core.Path.{◌≡◌, refl, sym, ap, ◌∙◌}
 use native.Mathlib.Omega.{arith}
 use lib.Dec.{eqb, ltb}
 use lib.ListN.{length}
 use borrow.Author.Tests.{ltb-true, ltb-false}
 use Rattle.text.specs.Bytes.{part}
+use Rattle.std.specs.Prelude.{Err}
+use Rattle.brackets.specs.Stacks.{Settled}
 use Rattle.storing.specs.Stored.{stored}
+use Rattle.definition.specs.Answers.{list_of}
 use Rattle.definition.specs.Extents.{extent_at, bars_of}
 use Rattle.definition.specs.Heads.{head_at}
 use Rattle.definition.specs.Lists.{Formals, ill, whole}
@@ -17,8 +21,12 @@ use Rattle.definition.specs.Definitions.{Macro, macro, Definition, barred, bad, 
 use Rattle.definition.specs.declared.Extent.{Extent}
 use Rattle.definition.specs.declared.Head.{Head}
 use Rattle.definition.specs.declared.Formal.{Formal}
+use Rattle.definition.specs.declared.ReadError.{ReadError}
+use Rattle.definition.specs.declared.ReadError.TheVariants.{IllFormed, NoRoom}
 use Rattle.definition.proofs.Heading.{head_empty}
-use Rattle.definition.proofs.Defining.{bad_name, bad_count}
+use Rattle.definition.proofs.Defining.{bad_name, bad_count, told_ill, told_few}
+use Rattle.form.specs.Putting.{FormBy}
+use Rattle.form.proofs.Working.{full_fewer}
 
 -- a number is none, or some
 by_none : {P : Type 0} (d : ℕ) → (0 < d → P) → (d ≤ 0 → P) → P
@@ -66,6 +74,12 @@ module _ (s : List ℕ) (i : ℕ) {w : Extent} {h : Head} (p : w ≡ extent_at s
   -- it stands in a text that is not empty
   pub good_some : 0 < length s
   good_some = by_none (length s) (λ l. l) (λ l. absurd (good_shape (ap (shape_by s) (q ∙ head_empty s i l))))
+
+  -- its head and formals are read, unless the bytes for brackets are fewer than those of the text
+  pub good_unread : {work : List ℕ} {v : ReadError} (o o' : List ℕ) → length s < 18446744073709551615
+      → Settled work (length s) (Err NoRoom) (list_of (shape_by s h)) (Err v) → FormBy (Err v) s work m o o'
+  good_unread {v = IllFormed} o o' l t = good_shape (told_ill (shape_by s h) t)
+  good_unread {work = work} {v = NoRoom} o o' l t = inl (full_fewer work (length s) good_some l (told_few (shape_by s h) t))
 
   module _ {fs : List Formal} {x : ℕ} (k : shape_by s h ≡ whole fs x) where
     told : Unspoilt (is_bad s (part s h.from h.end) fs (stored s x w.end)) (macro (part s h.from h.end) (parameters_of s fs) (stored s x w.end)) m

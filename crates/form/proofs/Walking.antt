@@ -4,23 +4,22 @@ use Prim.Native.Nat.{ℕ, ◌+◌, ◌<◌, ◌≤◌}
 use mathlib.Core.Bool.{Bool, true, false}
 use mathlib.Core.List.{List, ◌++◌}
 use mathlib.Core.Logic.{◌⊎◌, inl, inr}
-use mathlib.Core.Path.{◌≡◌, refl, sym, ap, ◌∙◌}
+use mathlib.Core.Path.{◌≡◌, refl, ap, ◌∙◌}
 use native.Mathlib.Omega.{arith}
 use lib.ListN.{length}
+use Rattle.std.specs.Prelude.{Some, Result, Err}
+use Rattle.std.specs.Result.{result_ok}
 use Rattle.brackets.specs.Stacks.{Settled}
-use Rattle.brackets.proofs.Settling.{settled_full}
-use Rattle.storing.specs.declared.Stored.{Stored}
-use Rattle.storing.specs.declared.Stored.TheVariants.{Upto, Short}
 use Rattle.definition.specs.Lists.{formal_at, whole, formals_at}
 use Rattle.definition.specs.Definitions.{parameter_of}
 use Rattle.definition.specs.declared.Formal.{Formal}
-use Rattle.definition.specs.declared.FormalRead.{FormalRead}
-use Rattle.definition.specs.declared.FormalRead.TheVariants as formal
+use Rattle.definition.specs.declared.ReadError.{ReadError}
+use Rattle.definition.specs.declared.ReadError.TheVariants.{NoRoom}
 use Rattle.definition.proofs.Formals.{Rest, formals_rest}
-use Rattle.definition.proofs.Scanning.{Scanning, scan_first, scan_next, none_behind, some_behind}
+use Rattle.definition.proofs.Scanning.{Scanning, scan_first, scan_next, formal_read, none_behind, some_behind}
 use Rattle.form.specs.Forms.{parameter_form}
-use Rattle.form.specs.Putting.{Put, PutBy}
-use Rattle.form.proofs.Pushing.{put_so, put_short, Pushing, pushing_first, pushing_end, pushing_next, pushing_short}
+use Rattle.form.specs.Putting.{Put}
+use Rattle.form.proofs.Pushing.{Pushing, pushing_first, pushing_end, pushing_next, pushing_short}
 use Rattle.form.proofs.Formed.{forms_of, forms_none, forms_next}
 
 -- of the whole list fs: the formals from i on, whose forms are still to be put
@@ -53,38 +52,33 @@ module _ {s work work' o o' : List ℕ} {at i n k : ℕ} (a : Walking s work wor
   pub walk_fits : k ≤ length o'
   walk_fits = omega (arith, a.fits, a.same_length)
 
-  -- the formal f was read at i; x: whether its form was put, with w work bytes
-  module _ {r : FormalRead} (h : Settled work' (length s) formal.Short (formal_at s i) r) {f : Formal} (q : r ≡ formal.Whole f) (w : ℕ) (o'' : List ℕ) (z : w ≡ length work') (y : length o'' ≡ length o') (x : Stored) (b : PutBy x (w < length s) o' o'' k (parameter_form (parameter_of s f))) where
+  -- the formal f was read at i, its form is put with w work bytes
+  module _ {r : Result Formal ReadError} (h : Settled work' (length s) (Err NoRoom) (formal_at s i) r) {f : Formal} (q : Some f ≡ result_ok r) (o'' : List ℕ) (y : length o'' ≡ length o') where
     module _ {fs : List Formal} {e : ℕ} (p : formals_at s at ≡ whole fs e) where
       walk_rest : Rest s f (a.left fs e p).rest e
-      walk_rest =
-          let g : formal_at s i ≡ formal.Whole f = sym (settled_full h (λ y. let z : ◌≡◌ {A = ℕ} 0 1 = cc in omega arith)) ∙ q in
-          formals_rest s i f (a.left fs e p).rest e g (a.left fs e p).here
+      walk_rest = formals_rest s i f (a.left fs e p).rest e (formal_read a.scan h q) (a.left fs e p).here
 
       walk_forms : forms_of s (a.left fs e p).rest ≡ parameter_form (parameter_of s f) ++ forms_of s walk_rest.rest
       walk_forms = ap (forms_of s) walk_rest.first ∙ forms_next s f walk_rest.rest
 
-      pub walk_full : x ≡ Short → (length work < length s) ⊎ (length o < n + length (forms_of s fs))
-      walk_full t = go (put_short x (w < length s) o' o'' k (parameter_form (parameter_of s f)) b t)
-        where
-          go : (w < length s) ⊎ (length o' < k + length (parameter_form (parameter_of s f))) → (length work < length s) ⊎ (length o < n + length (forms_of s fs))
-          go (inl l) = inl (omega (arith, a.scan.same_length))
-          go (inr l) = inr (pushing_short (a.left fs e p).pushing (parameter_form (parameter_of s f)) (forms_of s walk_rest.rest) walk_forms l)
+      pub walk_full : {w : ℕ} → w ≡ length work' → (w < length s) ⊎ (length o' < k + length (parameter_form (parameter_of s f)))
+          → (length work < length s) ⊎ (length o < n + length (forms_of s fs))
+      walk_full z (inl l) = inl (omega (arith, a.scan.same_length))
+      walk_full z (inr l) = inr (pushing_short (a.left fs e p).pushing (parameter_form (parameter_of s f)) (forms_of s walk_rest.rest) walk_forms l)
 
-      module _ {m : ℕ} (t : x ≡ Upto m) where
+      module _ {m : ℕ} (b : Put o' o'' k m (parameter_form (parameter_of s f))) where
         walk_on : Pushing o o'' n m (forms_of s walk_rest.rest) (forms_of s fs)
-        walk_on =
-            pushing_next (a.left fs e p).pushing (parameter_form (parameter_of s f)) (forms_of s walk_rest.rest) walk_forms y
-            (put_so x (w < length s) o' o'' k (parameter_form (parameter_of s f)) b t)
+        walk_on = pushing_next (a.left fs e p).pushing (parameter_form (parameter_of s f)) (forms_of s walk_rest.rest) walk_forms y b
 
         pub walk_last : f.last ≡ true → Put o o'' n m (forms_of s fs)
         walk_last l = pushing_end walk_on (forms_none s (none_behind s f walk_rest.others l))
 
-    pub walk_next : {v : List ℕ} {m : ℕ} → length v ≡ length work' → x ≡ Upto m → f.last ≡ false → Walking s work v o o'' at f.next n m
-    walk_next u t l =
+    pub walk_next : {v : List ℕ} {m : ℕ} → length v ≡ length work' → Put o' o'' k m (parameter_form (parameter_of s f)) → f.last ≡ false
+        → Walking s work v o o'' at f.next n m
+    walk_next u b l =
         record {
           scan = scan_next a.scan h q (λ w c gs e p. refl) (λ w c. tt) l u;
           same_length = y ∙ a.same_length;
-          fits = omega (arith, a.same_length, (put_so x (w < length s) o' o'' k (parameter_form (parameter_of s f)) b t).fits);
-          left = λ fs e p. record { rest = (walk_rest p).rest; here = some_behind s f (walk_rest p).others l; pushing = walk_on p t };
+          fits = omega (arith, a.same_length, b.fits);
+          left = λ fs e p. record { rest = (walk_rest p).rest; here = some_behind s f (walk_rest p).others l; pushing = walk_on p b };
         }

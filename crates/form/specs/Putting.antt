@@ -1,14 +1,12 @@
 -- Bytes written behind the first n of a buffer, all of them or none.
 -- Assumes nothing.
-use Rattle.std.specs.Prelude.{ℕ, ◌+◌, ◌<◌, ◌≤◌, ◌≡◌, ◌⊎◌, List, ◌++◌, length, take}
-use Rattle.storing.specs.declared.Stored.{Stored}
-use Rattle.storing.specs.declared.Stored.TheVariants.{Upto, Short}
+use Rattle.std.specs.Prelude.{Option, Some, None, Result, Ok, Err, ℕ, ◌+◌, ◌<◌, ◌≤◌, ◌≡◌, ◌⊎◌, List, ◌++◌, length, take}
 use Rattle.definition.specs.Lists.{Formals, whole}
 use Rattle.definition.specs.Definitions.{Macro}
 use Rattle.definition.specs.declared.Formal.{Formal}
+use Rattle.definition.specs.declared.ReadError.{ReadError}
+use Rattle.definition.specs.declared.ReadError.TheVariants.{IllFormed, NoRoom}
 use Rattle.form.specs.Forms.{form_of, text_start}
-use Rattle.form.specs.declared.FormWritten.{FormWritten}
-use Rattle.form.specs.declared.FormWritten.TheVariants as written
 
 -- the buffer o became o', ys put behind its first n, which are m then; what stands behind those is left open
 pub record Put (o o' : List ℕ) (n m : ℕ) (ys : List ℕ) : Type 0 where
@@ -17,9 +15,9 @@ pub record Put (o o' : List ℕ) (n m : ℕ) (ys : List ℕ) : Type 0 where
   pub bytes : take m o' ≡ take n o ++ ys
 
 -- ys were put, or there is no room for them, or something else lacks
-abbrev pub PutBy : Stored → Type 0 → List ℕ → List ℕ → ℕ → List ℕ → Type 0
-PutBy (Upto m) lack o o' n ys = Put o o' n m ys
-PutBy Short lack o o' n ys = lack ⊎ (length o < n + length ys)
+abbrev pub PutBy : Option ℕ → Type 0 → List ℕ → List ℕ → ℕ → List ℕ → Type 0
+PutBy (Some m) lack o o' n ys = Put o o' n m ys
+PutBy None lack o o' n ys = lack ⊎ (length o < n + length ys)
 
 -- g are so many formals, and the text begins at x
 pub record Listed (g : Formals) (count x : ℕ) : Type 0 where
@@ -35,7 +33,7 @@ pub record FormAt (m : Macro) (o o' : List ℕ) (k x : ℕ) : Type 0 where
   pub bytes : take k o' ≡ form_of m
   pub text : x ≡ text_start m
 
-abbrev pub FormBy : FormWritten → List ℕ → List ℕ → Macro → List ℕ → List ℕ → Type 0
-FormBy (written.Upto k x) s work m o o' = FormAt m o o' k x
-FormBy written.Short s work m o o' = (length work < length s) ⊎ (length o < length (form_of m))
-FormBy written.IllFormed s work m o o' = ⊥
+abbrev pub FormBy : Result (ℕ × ℕ) ReadError → List ℕ → List ℕ → Macro → List ℕ → List ℕ → Type 0
+FormBy (Ok (k, x)) s work m o o' = FormAt m o o' k x
+FormBy (Err NoRoom) s work m o o' = (length work < length s) ⊎ (length o < length (form_of m))
+FormBy (Err IllFormed) s work m o o' = ⊥

@@ -9,6 +9,7 @@ use native.Mathlib.Omega.{arith}
 use lib.Dec.{eqb}
 use lib.ListN.{length, drop}
 use borrow.Author.Tests.{lt-ltb, not-true}
+use Rattle.std.specs.Prelude.{Ok}
 use Rattle.text.specs.Bytes.{same, holds}
 use Rattle.lex.specs.Classes.{is_run}
 use Rattle.lex.specs.Tokens.{in_definition, White, Name, Byte, plain, tokens}
@@ -23,9 +24,7 @@ use Rattle.storing.proofs.Accents.{grave_past}
 use Rattle.definition.specs.Extents.{extent_in}
 use Rattle.definition.specs.Lists.{step_at, default_in, default_end, formal_at, whole, also, formals_at}
 use Rattle.definition.specs.Definitions.{Parameter, parameter, formal_name, parameter_of, parameters_of, bad_formal, named, bad_formals}
-use Rattle.definition.specs.declared.Ending.TheVariants as ending
 use Rattle.definition.specs.declared.Formal.{Formal}
-use Rattle.definition.specs.declared.FormalRead.TheVariants as formal
 use Rattle.definition.proofs.Formals.{formals_next, behind_last, behind_more}
 use Rattle.genuine.specs.Fitness.{fit_formal, fit_stored, fit_default, is_named, fit_parameters}
 use Rattle.genuine.specs.Spelling.{spelled, spelled_parameter, spelled_from}
@@ -56,7 +55,7 @@ by_closer = record { lone = closer; no_name = refl; no_default = refl; either = 
 -- the formal at i, read, with r behind it
 record Formed (s : List ℕ) (i : ℕ) (q : Parameter) (last : Bool) (r : List ℕ) : Type 0 where
   one : Formal
-  reads : formal_at s i ≡ formal.Whole one
+  reads : formal_at s i ≡ Ok one
   ends : one.last ≡ last
   within : one.next ≤ length s
   rest : drop one.next s ≡ r
@@ -130,7 +129,7 @@ module _ (s f r : List ℕ) (c i : ℕ) (last : Bool) (k : Ends c last) (h : fit
     ender : Reads s (z + 1) (plain Byte (z + 1) (z + 1 + 1) 0)
     ender = lone_reads s r (z + 1) k.lone blank.rest
 
-    ends_there : default_end s a ≡ ending.Upto (z + 1) (z + 1 + 1)
+    ends_there : default_end s a ≡ Ok (z + 1, z + 1 + 1)
     unfolding default_end default_in step_at
     ends_there =
         ap (default_in s []) default.split ∙ (passes_in s (tokens in_definition s z) default.passes default.unmarked

@@ -5,18 +5,16 @@ use mathlib.Core.Bool.{true, cond, ◌||◌}
 use mathlib.Core.List.{List, [], ◌∷◌}
 use mathlib.Core.Path.{◌≡◌, refl}
 use lib.ListN.{length}
+use Rattle.std.specs.Prelude.{Result, Ok, Err}
 use Rattle.lex.specs.Tokens.{in_definition, Name, is, is_byte, name_of}
 use Rattle.lex.specs.declared.Token.{Token}
 use Rattle.lex.proofs.Tests.{by_test}
 use Rattle.definition.specs.Extents.{Free}
 use Rattle.definition.specs.Heads.{gap_end, next_at}
-use Rattle.definition.specs.Lists.{default_end, given_formal, formal_by, formal_at, Formals, ill, whole, also, by_formal, formals_from, formals_at}
+use Rattle.definition.specs.Lists.{Ending, default_end, given_formal, formal_by, formal_at, Formals, ill, whole, also, by_formal, formals_from, formals_at}
 use Rattle.definition.specs.Definitions.{formal_name}
-use Rattle.definition.specs.declared.Ending.{Ending}
-use Rattle.definition.specs.declared.Ending.TheVariants as ending
 use Rattle.definition.specs.declared.Formal.{Formal}
-use Rattle.definition.specs.declared.FormalRead.{FormalRead}
-use Rattle.definition.specs.declared.FormalRead.TheVariants as formal
+use Rattle.definition.specs.declared.ReadError.{ReadError}
 use Rattle.definition.proofs.Formals.{kind_inside}
 use Rattle.definition.proofs.Seeing.{token_seen}
 use Rattle.definition.proofs.Onward.{kind_past, gap_past, read_free}
@@ -25,16 +23,14 @@ use Rattle.genuine.proofs.Naming.{word_fit}
 
 module _ (s : List ℕ) where
   -- a formal's name is fit
-  FormalFit : FormalRead → Type 0
-  FormalFit (formal.Whole f) = fit_formal (formal_name s f) ≡ true
-  FormalFit formal.IllFormed = Unit {0}
-  FormalFit formal.Short = Unit {0}
+  FormalFit : Result Formal ReadError → Type 0
+  FormalFit (Ok f) = fit_formal (formal_name s f) ≡ true
+  FormalFit (Err e) = Unit {0}
 
   given_fit : (t : Token) (a : ℕ) → fit_formal (name_of s t) ≡ true → (r : Ending) → FormalFit (given_formal s t a r)
   unfolding FormalFit
-  given_fit t a e (ending.Upto x y) = e
-  given_fit t a e ending.Torn = tt
-  given_fit t a e ending.Short = tt
+  given_fit t a e (Ok (x, y)) = e
+  given_fit t a e (Err v) = tt
 
   formal-by : (t u : Token) → fit_formal (name_of s t) ≡ true → FormalFit (formal_by s t u)
   unfolding FormalFit
@@ -66,12 +62,11 @@ module _ (s : List ℕ) where
   also_fit f ill e h = tt
   also_fit f (whole fs x) e h = more f fs e h
 
-  formal_then : (r : FormalRead) (go : ℕ → Formals) → FormalFit r → ((f : Formal) → r ≡ formal.Whole f → FormalsFit (go f.next)) → FormalsFit (by_formal r go)
+  formal_then : (r : Result Formal ReadError) (go : ℕ → Formals) → FormalFit r → ((f : Formal) → r ≡ Ok f → FormalsFit (go f.next)) → FormalsFit (by_formal r go)
   unfolding FormalFit FormalsFit
-  formal_then (formal.Whole f) go h g =
+  formal_then (Ok f) go h g =
       also_fit f (cond f.last (whole [] f.next) (go f.next)) h (by_test FormalsFit f.last (λ e. empty) (λ e. g f refl))
-  formal_then formal.IllFormed go h g = tt
-  formal_then formal.Short go h g = tt
+  formal_then (Err e) go h g = tt
 
   formals_from_lem : (n i : ℕ) → Free s i → FormalsFit (formals_from n s i)
   unfolding FormalsFit formals_from

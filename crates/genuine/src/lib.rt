@@ -9,7 +9,6 @@ ghost use Rattle.genuine.specs.Fitness.{is_short, all_solid, fit_name, all_run, 
 ghost use Rattle.genuine.specs.Layout.{mark_at, formal_end, formal_name, default_fits, named_from, formal_fits, formals_fit, is_less, body_fits, entry_fits, all_zero, all_blank, ends_there, left_from, left_in};
 ghost use Rattle.genuine.specs.Layout.{is_blank as isBlankRecord};
 
-use afresh::Verdict;
 use judging::judge_whole;
 use lex::{is_run, is_space, is_start};
 use names::directive_of;
@@ -108,9 +107,8 @@ fn is_fit_stored(w: &[u8], text: bool, name: &mut [u8], stack: &mut [u8]) -> boo
     }
     let v = judge_whole(w, text, name, stack);
     match v {
-        Verdict::Good => true,
-        Verdict::Bad => false,
-        Verdict::Short => false,
+        Some(bad) => !bad,
+        None => false,
     }
 }
 

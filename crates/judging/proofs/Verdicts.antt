@@ -1,21 +1,18 @@
 -- The verdict on a text or a default of which all is read: what is bad of it is what is bad of it without white space at its ends.
 -- Assumes nothing.
-use Prim.Native.Nat.{ℕ, ◌+◌, ◌-◌, ◌≤◌}
+use Prim.Native.Nat.{ℕ, ◌+◌, ◌≤◌}
 use mathlib.Core.Bool.{Bool, true, false}
-use mathlib.Core.List.{List, [], ◌∷◌, ◌++◌, append-nil}
+use mathlib.Core.List.{List, [], ◌∷◌}
 use mathlib.Core.Path.{◌≡◌, refl, ap, sym, ◌∙◌, subst}
-use native.Mathlib.Nat.{le_refl, le_trans}
+use native.Mathlib.Nat.{le_trans}
 use native.Mathlib.Omega.{arith}
 use lib.ListN.{length}
-use lib.Seq.{take_all}
-use Rattle.text.specs.Bytes.{part}
+use Rattle.std.specs.Prelude.{Option, None}
 use Rattle.lex.specs.Classes.{is_space}
 use Rattle.brackets.specs.Stacks.{stack_of, Full, Settled, full, over}
 use Rattle.brackets.proofs.Stacking.{full_more}
 use Rattle.storing.specs.Stored.{keep, trim_left, trim_right}
 use Rattle.afresh.specs.declared.Reading.{Reading}
-use Rattle.afresh.specs.declared.Verdict.{Verdict}
-use Rattle.afresh.specs.declared.Verdict.TheVariants.{Short}
 use Rattle.afresh.specs.States.{reading, ended, begun}
 use Rattle.afresh.specs.Feeding.{state_of, Sound, verdict_of}
 use Rattle.afresh.specs.Unfit.{is_unfit_as}
@@ -62,9 +59,9 @@ trim_twice (x ∷ xs) = keep_trimmed x (trim_right xs) (trim_twice xs)
 ended_bad : (text : Bool) (w : List ℕ) → ended (reading (begun text) w) ≡ is_unfit_as text (trim_right (trim_left w))
 ended_bad text w = sym (trimmed text w) ∙ meaning text (trim_right (trim_left w)) (trim_twice (trim_left w))
 
-pub judged_end : (text : Bool) (whole name₀ stack₀ : List ℕ) (n : ℕ) (v : Verdict) {q : Reading} {name stack rest : List ℕ}
+pub judged_end : (text : Bool) (whole name₀ stack₀ : List ℕ) (n : ℕ) (v : Option Bool) {q : Reading} {name stack rest : List ℕ}
     → Feeding (starting text) name₀ stack₀ q name stack rest whole → rest ≡ [] → ((w : List ℕ) → v ≡ verdict_of (ended (state_of q name w)))
-    → Settled stack₀ n Short (verdict_of (is_unfit_as text (trim_right (trim_left whole)))) v
+    → Settled stack₀ n None (verdict_of (is_unfit_as text (trim_right (trim_left whole)))) v
 unfolding reading
 judged_end text whole name₀ stack₀ n v {q} {name} {stack} a e h =
     let z : reading (state_of q name stack) [] ≡ reading (begun text) whole =
@@ -73,11 +70,5 @@ judged_end text whole name₀ stack₀ n v {q} {name} {stack} a e h =
     full (h stack ∙ (ap (λ s. verdict_of (ended s)) z ∙ ap verdict_of (ended_bad text whole)))
 
 -- the brackets have no room for the m bytes read
-pub judged_short : {right v : Verdict} {stack : List ℕ} {m n : ℕ} → m ≤ n → v ≡ Short → Full stack (0 + m) → Settled stack n Short right v
+pub judged_short : {right v : Option Bool} {stack : List ℕ} {m n : ℕ} → m ≤ n → v ≡ None → Full stack (0 + m) → Settled stack n None right v
 judged_short {stack = stack} {m} {n} l e f = over e (full_more stack (0 + m) n f (omega arith))
-
--- all of w is one part of it
-pub part_whole : (w : List ℕ) → w ≡ part w 0 (length w) ++ []
-part_whole w =
-    let z : length w - 0 ≡ length w = omega arith in
-    sym (append-nil (part w 0 (length w)) ∙ rw z (take_all (length w) w (le_refl _)))

@@ -1,7 +1,7 @@
 // Judges what a definition stores (document 01, "Bad definition"), read afresh as it is made, so that nothing is written down.
 #![tactic(auto)]
 
-ghost use Rattle.std.specs.Prelude.{◌≡◌, false, [], ◌≤◌, length};
+ghost use Rattle.std.specs.Prelude.{None, ◌≡◌, false, [], ◌≤◌, length};
 ghost use Rattle.text.specs.Bytes.{part};
 ghost use Rattle.brackets.specs.Stacks.{Settled};
 ghost use Rattle.storing.specs.Stored.{joined_from, escape_of, given, piece, stored, trim_left, trim_right};
@@ -9,55 +9,45 @@ ghost use Rattle.afresh.specs.States.{reading};
 ghost use Rattle.afresh.specs.Feeding.{state_of, Sound, FedBy, verdict_of};
 ghost use Rattle.afresh.specs.Unfit.{is_unfit_as};
 
-use afresh::{Fed, Reading, Verdict, begin, end_verdict, read_byte};
+use afresh::{Reading, begin, end_verdict, read_byte};
 use lex::{
     BLOCK_COMMENT, CONTINUATION, LINE_COMMENT, NEWLINE, STRING, Token, in_definition, marks_after,
     token_at,
 };
+use text::part_of;
 
-// Reads the bytes of `s` from `at` to before `end`.
-fn read_part(s: &[u8], at: usize, end: usize, r: Reading, name: &mut [u8], stack: &mut [u8]) -> Fed
+// Reads the bytes of `w`. Here too None says that the brackets have no room.
+fn read_bytes(w: &[u8], r: Reading, name: &mut [u8], stack: &mut [u8]) -> Option<Reading>
     requires { Sound r name.old stack.old }
-    ensures { FedBy result r (length (part s.now at end)) (reading (state_of r name.old stack.old) (part s.now at end)) stack.old name.new stack.new }
+    ensures { FedBy result r (length w.now) (reading (state_of r name.old stack.old) w.now) stack.old name.new stack.new }
 {
-    let mut i = at;
     let mut q = r;
-    while i < end {
-        if s.len() <= i {
-            return Fed::On(q);
-        }
-        let f = read_byte(q, s[i], name, stack);
-        match f {
-            Fed::On(p) => {
-                q = p;
-                i += 1;
-                continue;
-            }
-            Fed::Short => {
-                return Fed::Short;
-            }
-        }
+    for &b in w {
+        q = read_byte(q, b, name, stack)?;
     }
-    Fed::On(q)
+    Some(q)
 }
 
 // Reads the two bytes of an escape, `\` and `b`, or nothing where it is a `\` before a newline.
-fn read_escape(r: Reading, b: u8, name: &mut [u8], stack: &mut [u8]) -> Fed
+fn read_escape(r: Reading, b: u8, name: &mut [u8], stack: &mut [u8]) -> Option<Reading>
     requires { Sound r name.old stack.old }
     ensures { FedBy result r (length (escape_of b)) (reading (state_of r name.old stack.old) (escape_of b)) stack.old name.new stack.new }
 {
     if b == 10 {
-        return Fed::On(r);
+        return Some(r);
     }
-    let f = read_byte(r, 92, name, stack);
-    match f {
-        Fed::On(q) => read_byte(q, b, name, stack),
-        Fed::Short => Fed::Short,
-    }
+    let q = read_byte(r, 92, name, stack)?;
+    read_byte(q, b, name, stack)
 }
 
 // Reads what byte `b` of a string gives: nothing yet for an unescaped `\`, which the next byte decides on.
-fn read_string_byte(r: Reading, escaped: bool, b: u8, name: &mut [u8], stack: &mut [u8]) -> Fed
+fn read_string_byte(
+    r: Reading,
+    escaped: bool,
+    b: u8,
+    name: &mut [u8],
+    stack: &mut [u8],
+) -> Option<Reading>
     requires { Sound r name.old stack.old }
     ensures { FedBy result r (length (given escaped b)) (reading (state_of r name.old stack.old) (given escaped b)) stack.old name.new stack.new }
 {
@@ -65,60 +55,45 @@ fn read_string_byte(r: Reading, escaped: bool, b: u8, name: &mut [u8], stack: &m
         return read_escape(r, b, name, stack);
     }
     if b == 92 {
-        return Fed::On(r);
+        return Some(r);
     }
     read_byte(r, b, name, stack)
 }
 
 // Reads the `\` that a string ends with, where one is left over.
-fn read_rest(r: Reading, escaped: bool, name: &mut [u8], stack: &mut [u8]) -> Fed
+fn read_rest(r: Reading, escaped: bool, name: &mut [u8], stack: &mut [u8]) -> Option<Reading>
     requires { Sound r name.old stack.old }
     ensures { FedBy result r (length (joined_from escaped [])) (reading (state_of r name.old stack.old) (joined_from escaped [])) stack.old name.new stack.new }
 {
     if escaped {
         return read_byte(r, 92, name, stack);
     }
-    Fed::On(r)
+    Some(r)
 }
 
 // Reads a string's bytes without each `\` before a newline.
-fn read_joined(
-    s: &[u8],
-    at: usize,
-    end: usize,
-    r: Reading,
-    name: &mut [u8],
-    stack: &mut [u8],
-) -> Fed
+fn read_joined(w: &[u8], r: Reading, name: &mut [u8], stack: &mut [u8]) -> Option<Reading>
     requires { Sound r name.old stack.old }
-    ensures { FedBy result r (length (joined_from false (part s.now at end))) (reading (state_of r name.old stack.old) (joined_from false (part s.now at end))) stack.old name.new stack.new }
+    ensures { FedBy result r (length (joined_from false w.now)) (reading (state_of r name.old stack.old) (joined_from false w.now)) stack.old name.new stack.new }
 {
-    let mut i = at;
     let mut q = r;
     let mut escaped = false;
-    while i < end {
-        if s.len() <= i {
-            return read_rest(q, escaped, name, stack);
-        }
-        let b = s[i];
-        let f = read_string_byte(q, escaped, b, name, stack);
-        match f {
-            Fed::On(p) => {
-                q = p;
-                escaped = !escaped & (b == 92);
-                i += 1;
-                continue;
-            }
-            Fed::Short => {
-                return Fed::Short;
-            }
-        }
+    for &b in w {
+        q = read_string_byte(q, escaped, b, name, stack)?;
+        escaped = !escaped & (b == 92);
     }
     read_rest(q, escaped, name, stack)
 }
 
 // Reads what is stored of a token that stands between quote marks or not.
-fn read_piece(s: &[u8], t: Token, marks: bool, r: Reading, name: &mut [u8], stack: &mut [u8]) -> Fed
+fn read_piece(
+    s: &[u8],
+    t: Token,
+    marks: bool,
+    r: Reading,
+    name: &mut [u8],
+    stack: &mut [u8],
+) -> Option<Reading>
     requires { Sound r name.old stack.old }
     ensures { FedBy result r (length (piece s.now marks t)) (reading (state_of r name.old stack.old) (piece s.now marks t)) stack.old name.new stack.new }
 {
@@ -127,17 +102,18 @@ fn read_piece(s: &[u8], t: Token, marks: bool, r: Reading, name: &mut [u8], stac
     }
     if t.kind == CONTINUATION {
         if marks {
-            return Fed::On(r);
+            return Some(r);
         }
         return read_byte(r, 10, name, stack);
     }
+    let w = part_of(s, t.at, t.end);
     if t.kind == STRING {
-        return read_joined(s, t.at, t.end, r, name, stack);
+        return read_joined(w, r, name, stack);
     }
-    read_part(s, t.at, t.end, r, name, stack)
+    read_bytes(w, r, name, stack)
 }
 
-// Judges what is stored of the text (or of a default) of a definition from `at` to before `end`.
+// Whether what is stored of the text (or of a default) of a definition is bad, as it stands from `at` to before `end`.
 pub fn judge_stored(
     s: &[u8],
     at: usize,
@@ -145,9 +121,9 @@ pub fn judge_stored(
     text: bool,
     name: &mut [u8],
     stack: &mut [u8],
-) -> Verdict
+) -> Option<bool>
     requires { 1025 ≤ length name.old }
-    ensures { Settled stack.old (length s.now) Verdict.Short (verdict_of (is_unfit_as text (stored s.now at end))) result }
+    ensures { Settled stack.old (length s.now) None (verdict_of (is_unfit_as text (stored s.now at end))) result }
 {
     let mut i = at;
     let mut q = begin(text);
@@ -160,30 +136,18 @@ pub fn judge_stored(
         if t.kind == NEWLINE {
             return end_verdict(q, name);
         }
-        let f = read_piece(s, t, marks, q, name, stack);
-        match f {
-            Fed::On(p) => {
-                q = p;
-                marks = marks_after(marks, t);
-                i = t.end;
-                continue;
-            }
-            Fed::Short => {
-                return Verdict::Short;
-            }
-        }
+        q = read_piece(s, t, marks, q, name, stack)?;
+        marks = marks_after(marks, t);
+        i = t.end;
     }
     end_verdict(q, name)
 }
 
-// Judges the stored text (or default) `w`, white space at both ends left aside.
-pub fn judge_whole(w: &[u8], text: bool, name: &mut [u8], stack: &mut [u8]) -> Verdict
+// Whether the stored text (or default) `w` is bad, white space at both ends left aside.
+pub fn judge_whole(w: &[u8], text: bool, name: &mut [u8], stack: &mut [u8]) -> Option<bool>
     requires { 1025 ≤ length name.old }
-    ensures { Settled stack.old (length w.now) Verdict.Short (verdict_of (is_unfit_as text (trim_right (trim_left w.now)))) result }
+    ensures { Settled stack.old (length w.now) None (verdict_of (is_unfit_as text (trim_right (trim_left w.now)))) result }
 {
-    let f = read_part(w, 0, w.len(), begin(text), name, stack);
-    match f {
-        Fed::On(q) => end_verdict(q, name),
-        Fed::Short => Verdict::Short,
-    }
+    let q = read_bytes(w, begin(text), name, stack)?;
+    end_verdict(q, name)
 }

@@ -10,6 +10,7 @@ use native.Mathlib.Omega.{arith}
 use borrow.Author.Tests.{lt-leb}
 use lib.Dec.{leb}
 use lib.ListN.{length, take, drop}
+use Rattle.std.specs.Prelude.{Result, Ok, Err}
 use Rattle.text.specs.Bytes.{part}
 use Rattle.brackets.specs.Stacks.{Settled, full, over}
 use Rattle.definition.specs.Definitions.{Macro, Definition, barred, bad, good, definition_at}
@@ -20,8 +21,8 @@ use Rattle.definition.specs.declared.Judged.TheVariants as judged
 use Rattle.definition.specs.Heads.{head_at}
 use Rattle.form.specs.Forms.{form_of}
 use Rattle.form.specs.Putting.{FormAt, FormBy}
-use Rattle.form.specs.declared.FormWritten.{FormWritten}
-use Rattle.form.specs.declared.FormWritten.TheVariants as written
+use Rattle.definition.specs.declared.ReadError.{ReadError}
+use Rattle.definition.specs.declared.ReadError.TheVariants as unread
 use Rattle.store.specs.Stores.{macro_name, find, define_by, define, encode, fits}
 use Rattle.store.specs.Buffers.{Holds, FormIs, Defines}
 use Rattle.store.specs.declared.Found.{Found}
@@ -37,15 +38,17 @@ use Rattle.macros.proofs.Heading.{name_long}
 
 -- ---- the form written
 
-module _ (s work : List ℕ) (m : Macro) (o o' : List ℕ) {f : FormWritten} (b : FormBy f s work m o o') where
-  pub form_upto : {k x : ℕ} → f ≡ written.Upto k x → FormAt m o o' k x
-  form_upto e = subst (λ (g : FormWritten). FormBy g s work m o o') e b
+module _ (s work : List ℕ) (m : Macro) (o o' : List ℕ) {f : Result (ℕ × ℕ) ReadError} (b : FormBy f s work m o o') where
+  pub form_upto : {k x : ℕ} → f ≡ Ok (k, x) → FormAt m o o' k x
+  form_upto e = subst (λ (g : Result (ℕ × ℕ) ReadError). FormBy g s work m o o') e b
 
-  pub form_short : f ≡ written.Short → length s ≤ length work → length o < length (form_of m)
-  form_short e l = ⊎_elim (λ h. absurd (omega arith)) (λ h. h) (subst (λ (g : FormWritten). FormBy g s work m o o') e b)
-
-  pub form_ill : f ≡ written.IllFormed → ⊥
-  form_ill e = subst (λ (g : FormWritten). FormBy g s work m o o') e b
+  -- with as many work bytes as the text has
+  pub form_short : {v : ReadError} → f ≡ Err v → length s ≤ length work → length o < length (form_of m)
+  form_short {v} e l = go v (subst (λ (g : Result (ℕ × ℕ) ReadError). FormBy g s work m o o') e b)
+    where
+      go : (v : ReadError) → FormBy (Err v) s work m o o' → length o < length (form_of m)
+      go unread.IllFormed c = absurd c
+      go unread.NoRoom c = ⊎_elim (λ h. absurd (omega arith)) (λ h. h) c
 
 pub form_is : (s : List ℕ) (i : ℕ) {e : ℕ} {m : Macro} {o o' p : List ℕ} {k x : ℕ} {h : Head} → definition_at s i ≡ good m e → h ≡ head_at s i → FormAt m o o' k x → p ≡ part o' 0 k
     → FormIs m p (h.end - h.from) x

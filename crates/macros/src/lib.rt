@@ -11,7 +11,7 @@ ghost use Rattle.macros.specs.Defining.{Ready, GoodAt, Reads};
 ghost use Rattle.macros.specs.Starting.{is_start_name, range_end, range_of, named_among, is_start, all_starts, starts_size, starts_fit, started, Starts};
 
 use definition::{Judged, head_at, judge_definition};
-use form::{FormWritten, write_form};
+use form::write_form;
 use genuine::{Checked, check_store};
 use lex::{ESCAPED, NAME, in_file, token_at};
 use names::directive_of;
@@ -85,7 +85,7 @@ fn store_good(
 {
     let f = write_form(s, at, work, form);
     match f {
-        FormWritten::Upto(n, text) => {
+        Ok((n, text)) => {
             let h = head_at(s, at);
             let d = define(
                 bytes,
@@ -100,8 +100,7 @@ fn store_good(
                 Defined::NoRoom => ReadIn::NoRoom,
             }
         }
-        FormWritten::Short => ReadIn::NoRoom,
-        FormWritten::IllFormed => ReadIn::NoRoom,
+        Err(_) => ReadIn::NoRoom,
     }
 }
 

@@ -8,13 +8,12 @@ use native.Mathlib.Nat.{le_refl}
 use native.Mathlib.Numerals.{add-one}
 use native.Mathlib.Omega.{arith}
 use lib.Dec.{eqb}
-use lib.ListN.{length, set, length-append, length-set}
-use lib.Seq.{take-suc-set}
+use lib.ListN.{length, get_or, drop, set, length-append, length-set}
+use lib.Seq.{take-suc-set, drop-cons}
 use borrow.Author.Tests.{eq-eqb, ne_eqb, eqb-true, eqb-false}
+use Rattle.std.specs.Prelude.{Option, Some, None}
 use Rattle.lex.specs.Classes.{is_space}
 use Rattle.lex.proofs.Tests.{by_test, and_left, and_right}
-use Rattle.storing.specs.declared.Stored.{Stored}
-use Rattle.storing.specs.declared.Stored.TheVariants.{Upto, Short}
 use Rattle.storing.specs.Stored.{trim_left}
 use Rattle.storing.specs.Writing.{led, Added, AddedBy}
 
@@ -117,9 +116,9 @@ module _ {o o' : List ℕ} {from n m : ℕ} {xs : List ℕ} (a : Added o o' from
     short_then : length o' < m + length ys → length o < n + length (xs ++ ys)
     short_then b = rw length-append (omega (arith, a.count, a.same_length, led_length (eqb n from) xs))
 
-    pub by_then : (r : Stored) → AddedBy r o' o'' from m ys → AddedBy r o o'' from n (xs ++ ys)
-    by_then (Upto k) b = added_then b
-    by_then Short b = short_then b
+    pub by_then : (r : Option ℕ) → AddedBy r o' o'' from m ys → AddedBy r o o'' from n (xs ++ ys)
+    by_then (Some k) b = added_then b
+    by_then None b = short_then b
 
 -- What a loop has added so far: past it comes `rest`, and all of it is `whole`.
 pub record Adding (o o' : List ℕ) (from n k : ℕ) (rest whole : List ℕ) : Type 0 where
@@ -139,17 +138,16 @@ module _ {o o' : List ℕ} {from n k : ℕ} {rest whole : List ℕ} (a : Adding 
   adding_length = a.added.same_length
 
   -- the rest is added in one step
-  pub adding_last : (o'' : List ℕ) (r : Stored) → AddedBy r o' o'' from k rest → AddedBy r o o'' from n whole
+  pub adding_last : (o'' : List ℕ) (r : Option ℕ) → AddedBy r o' o'' from k rest → AddedBy r o o'' from n whole
   adding_last o'' r b = subst (λ (w : List ℕ). AddedBy r o o'' from n w) a.splits (by_then a.added a.past rest o'' r b)
 
   pub adding_end : rest ≡ [] → Added o o' from n k whole
-  adding_end e = adding_last o' (Upto k) (rw e (added_none o' from k adding_past.1))
+  adding_end e = adding_last o' (Some k) (rw e (added_none o' from k adding_past.1))
 
   -- a first part of the rest is added, or there is no room for it
-  module _ (ys left : List ℕ) (e : rest ≡ ys ++ left) (o'' : List ℕ) (r : Stored) (b : AddedBy r o' o'' from k ys) where
-    pub adding_next : {m : ℕ} → r ≡ Upto m → Adding o o'' from n m left whole
-    adding_next {m} q =
-        let d : Added o' o'' from k m ys = subst (λ (x : Stored). AddedBy x o' o'' from k ys) q b in
+  module _ (ys left : List ℕ) (e : rest ≡ ys ++ left) where
+    pub adding_next : {o'' : List ℕ} {m : ℕ} → Added o' o'' from k m ys → Adding o o'' from n m left whole
+    adding_next {o''} d =
         record {
           past = a.past;
           done = a.done ++ ys;
@@ -157,7 +155,9 @@ module _ {o o' : List ℕ} {from n k : ℕ} {rest whole : List ℕ} (a : Adding 
           splits = append_assoc a.done ys left ∙ (ap (λ (w : List ℕ). a.done ++ w) (sym e) ∙ a.splits);
         }
 
-    pub adding_short : r ≡ Short → length o < n + length whole
-    adding_short q =
-        let d : length o' < k + length ys = subst (λ (x : Stored). AddedBy x o' o'' from k ys) q b in
-        adding_last o'' Short (rw (e, length-append) (omega arith))
+    pub adding_short : length o' < k + length ys → length o < n + length whole
+    adding_short d = adding_last o' None (rw (e, length-append) (omega arith))
+
+-- the next byte of what is added byte by byte
+pub drop_more : (xs : List ℕ) (i : ℕ) → i < length xs → drop i xs ≡ get_or xs i 0 ∷ drop (i + 1) xs
+drop_more xs i h = rw (add-one i, drop-cons xs i 0 h)

@@ -54,9 +54,14 @@ pub trimming_first : (o : List ℕ) (from n : ℕ) → (from ≤ n) × (n ≤ le
 trimming_first o from n h = record { past = h.0; within = le_refl n; fits = h.1; alike = refl }
 
 module _ {o : List ℕ} {from n k : ℕ} (a : Trimming o from n k) where
-  pub trimming_end : k ≤ from → Trimmed o from n k
+  pub trimming_end : k ≤ from → Trimmed o from n from
   unfolding trim_right
-  trimming_end h = record { past = a.past; within = a.within; bytes = part_none o from k h ∙ rw (part_none o from k h) at a.alike }
+  trimming_end h =
+      record {
+        past = le_refl from;
+        within = omega (arith, a.past, a.within);
+        bytes = part_none o from from (le_refl from) ∙ rw (part_none o from k h) at a.alike;
+      }
 
   module _ (h : from < k) where
     pub trimming_next : is_space (get_or o (k - 1) 0) ≡ true → Trimming o from n (k - 1)
@@ -68,10 +73,11 @@ module _ {o : List ℕ} {from n k : ℕ} (a : Trimming o from n k) where
           alike = sym (ap trim_right (part_last o from k h (omega (arith, a.within, a.fits))) ∙ trim_space (part o from (k - 1)) (get_or o (k - 1) 0) e) ∙ a.alike;
         }
 
-    pub trimming_solid : is_space (get_or o (k - 1) 0) ≡ false → Trimmed o from n k
+    pub trimming_solid : is_space (get_or o (k - 1) 0) ≡ false → Trimmed o from n (k - 1 + 1)
     trimming_solid e =
+        let q : k - 1 + 1 ≡ k = omega arith in
         let p : part o from k ≡ part o from (k - 1) ++ (get_or o (k - 1) 0 ∷ []) = part_last o from k h (omega (arith, a.within, a.fits)) in
-        record {
+        rw q record {
           past = a.past;
           within = a.within;
           bytes = p ∙ (sym (ap trim_right p ∙ trim_solid (part o from (k - 1)) (get_or o (k - 1) 0) e) ∙ a.alike);

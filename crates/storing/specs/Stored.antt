@@ -1,6 +1,6 @@
 -- What is stored of a macro's text or of a default (01, "Macros").
 -- Assumes nothing.
-use Rattle.std.specs.Prelude.{ℕ, Bool, true, false, cond, not, ◌&&◌, ◌||◌, List, [], ◌∷◌, ◌++◌, eqb, ltb}
+use Rattle.std.specs.Prelude.{ℕ, Bool, false, cond, not, ◌&&◌, ◌||◌, List, [], ◌∷◌, ◌++◌, eqb, ltb}
 use Rattle.text.specs.Bytes.{part}
 use Rattle.lex.specs.Classes.{is_space}
 use Rattle.lex.specs.Tokens.{in_definition, LineComment, BlockComment, String, Continuation, is, marks_after, tokens}

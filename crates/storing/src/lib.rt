@@ -11,73 +11,58 @@ use lex::{
     BLOCK_COMMENT, CONTINUATION, LINE_COMMENT, NEWLINE, STRING, Token, in_definition, is_space,
     marks_after, token_at,
 };
-use text::holds_in;
+use text::{holds_in, part_of};
 
-// How far a buffer is filled now, or that it has no room.
-#[derive(Clone, Copy)]
-pub enum Stored {
-    Upto(usize),
-    Short,
-}
+// Each function here that adds bytes answers how far the buffer is filled then, or None where it has no room.
 
 // Adds a byte behind the first `n`; none that is white space where nothing stands behind `from` yet.
-pub fn put_byte(out: &mut [u8], from: usize, n: usize, b: u8) -> Stored
+pub fn put_byte(out: &mut [u8], from: usize, n: usize, b: u8) -> Option<usize>
     requires { (from ≤ n) × (n ≤ length out.old) }
     ensures { AddedBy result out.old out.new from n (b ∷ []) }
 {
     if (n == from) & is_space(b) {
-        return Stored::Upto(n);
+        return Some(n);
     }
     if out.len() <= n {
-        return Stored::Short;
+        return None;
     }
     out[n] = b;
-    Stored::Upto(n + 1)
+    Some(n + 1)
 }
 
 // Adds the bytes of `s` from `at` to before `end`.
-pub fn put_bytes(s: &[u8], at: usize, end: usize, out: &mut [u8], from: usize, n: usize) -> Stored
+pub fn put_bytes(
+    s: &[u8],
+    at: usize,
+    end: usize,
+    out: &mut [u8],
+    from: usize,
+    n: usize,
+) -> Option<usize>
     requires { (from ≤ n) × (n ≤ length out.old) }
     ensures { AddedBy result out.old out.new from n (part s.now at end) }
 {
-    let mut i = at;
     let mut k = n;
-    while i < end {
-        if s.len() <= i {
-            return Stored::Upto(k);
-        }
-        let r = put_byte(out, from, k, s[i]);
-        match r {
-            Stored::Upto(m) => {
-                k = m;
-                i += 1;
-                continue;
-            }
-            Stored::Short => {
-                return Stored::Short;
-            }
-        }
+    for &b in part_of(s, at, end) {
+        k = put_byte(out, from, k, b)?;
     }
-    Stored::Upto(k)
+    Some(k)
 }
 
 // Adds the two bytes of an escape, `\` and `b`, or nothing where it is a `\` before a newline.
-fn put_escape(out: &mut [u8], from: usize, n: usize, b: u8) -> Stored
+fn put_escape(out: &mut [u8], from: usize, n: usize, b: u8) -> Option<usize>
     requires { (from ≤ n) × (n ≤ length out.old) }
     ensures { AddedBy result out.old out.new from n (escape_of b) }
 {
     if b == 10 {
-        return Stored::Upto(n);
+        return Some(n);
     }
-    let r = put_byte(out, from, n, 92);
-    match r {
-        Stored::Upto(m) => put_byte(out, from, m, b),
-        Stored::Short => Stored::Short,
-    }
+    let m = put_byte(out, from, n, 92)?;
+    put_byte(out, from, m, b)
 }
 
 // Adds what byte `b` of a string gives: nothing yet for an unescaped `\`, which the next byte decides on.
-fn put_string_byte(out: &mut [u8], from: usize, n: usize, escaped: bool, b: u8) -> Stored
+fn put_string_byte(out: &mut [u8], from: usize, n: usize, escaped: bool, b: u8) -> Option<usize>
     requires { (from ≤ n) × (n ≤ length out.old) }
     ensures { AddedBy result out.old out.new from n (given escaped b) }
 {
@@ -85,53 +70,52 @@ fn put_string_byte(out: &mut [u8], from: usize, n: usize, escaped: bool, b: u8) 
         return put_escape(out, from, n, b);
     }
     if b == 92 {
-        return Stored::Upto(n);
+        return Some(n);
     }
     put_byte(out, from, n, b)
 }
 
 // Adds the `\` that a string ends with, where one is left over.
-fn put_rest(out: &mut [u8], from: usize, n: usize, escaped: bool) -> Stored
+fn put_rest(out: &mut [u8], from: usize, n: usize, escaped: bool) -> Option<usize>
     requires { (from ≤ n) × (n ≤ length out.old) }
     ensures { AddedBy result out.old out.new from n (joined_from escaped []) }
 {
     if escaped {
         return put_byte(out, from, n, 92);
     }
-    Stored::Upto(n)
+    Some(n)
 }
 
 // Adds a string's bytes without each `\` before a newline.
-pub fn put_joined(s: &[u8], at: usize, end: usize, out: &mut [u8], from: usize, n: usize) -> Stored
+pub fn put_joined(
+    s: &[u8],
+    at: usize,
+    end: usize,
+    out: &mut [u8],
+    from: usize,
+    n: usize,
+) -> Option<usize>
     requires { (from ≤ n) × (n ≤ length out.old) }
     ensures { AddedBy result out.old out.new from n (joined_from false (part s.now at end)) }
 {
-    let mut i = at;
     let mut k = n;
     let mut escaped = false;
-    while i < end {
-        if s.len() <= i {
-            return put_rest(out, from, k, escaped);
-        }
-        let b = s[i];
-        let r = put_string_byte(out, from, k, escaped, b);
-        match r {
-            Stored::Upto(m) => {
-                k = m;
-                escaped = !escaped & (b == 92);
-                i += 1;
-                continue;
-            }
-            Stored::Short => {
-                return Stored::Short;
-            }
-        }
+    for &b in part_of(s, at, end) {
+        k = put_string_byte(out, from, k, escaped, b)?;
+        escaped = !escaped & (b == 92);
     }
     put_rest(out, from, k, escaped)
 }
 
 // Adds what is stored of a token that stands between quote marks or not.
-fn put_piece(s: &[u8], t: Token, marks: bool, out: &mut [u8], from: usize, n: usize) -> Stored
+fn put_piece(
+    s: &[u8],
+    t: Token,
+    marks: bool,
+    out: &mut [u8],
+    from: usize,
+    n: usize,
+) -> Option<usize>
     requires { (from ≤ n) × (n ≤ length out.old) }
     ensures { AddedBy result out.old out.new from n (piece s.now marks t) }
 {
@@ -140,7 +124,7 @@ fn put_piece(s: &[u8], t: Token, marks: bool, out: &mut [u8], from: usize, n: us
     }
     if t.kind == CONTINUATION {
         if marks {
-            return Stored::Upto(n);
+            return Some(n);
         }
         return put_byte(out, from, n, 10);
     }
@@ -155,18 +139,16 @@ fn trim_end(out: &[u8], from: usize, n: usize) -> usize
     requires { (from ≤ n) × (n ≤ length out.now) }
     ensures { Trimmed out.now from n result }
 {
-    let mut k = n;
-    while from < k {
-        if !is_space(out[k - 1]) {
-            return k;
+    for k in (from..n).rev() {
+        if !is_space(out[k]) {
+            return k + 1;
         }
-        k -= 1;
     }
-    k
+    from
 }
 
 // Stores the text of a definition from `at` to before `end` behind the first `from` bytes.
-pub fn store_text(s: &[u8], at: usize, end: usize, out: &mut [u8], from: usize) -> Stored
+pub fn store_text(s: &[u8], at: usize, end: usize, out: &mut [u8], from: usize) -> Option<usize>
     requires { from ≤ length out.old }
     ensures { StoredBy result s.now at end out.old out.new from }
 {
@@ -175,26 +157,17 @@ pub fn store_text(s: &[u8], at: usize, end: usize, out: &mut [u8], from: usize) 
     let mut marks = false;
     while i < end {
         if s.len() <= i {
-            return Stored::Upto(trim_end(out, from, k));
+            return Some(trim_end(out, from, k));
         }
         let t = token_at(s, i, in_definition(marks));
         if t.kind == NEWLINE {
-            return Stored::Upto(trim_end(out, from, k));
+            return Some(trim_end(out, from, k));
         }
-        let r = put_piece(s, t, marks, out, from, k);
-        match r {
-            Stored::Upto(m) => {
-                k = m;
-                marks = marks_after(marks, t);
-                i = t.end;
-                continue;
-            }
-            Stored::Short => {
-                return Stored::Short;
-            }
-        }
+        k = put_piece(s, t, marks, out, from, k)?;
+        marks = marks_after(marks, t);
+        i = t.end;
     }
-    Stored::Upto(trim_end(out, from, k))
+    Some(trim_end(out, from, k))
 }
 
 // Whether a token is a string or a comment.

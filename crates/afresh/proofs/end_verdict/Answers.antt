@@ -4,10 +4,6 @@ use Rattle.afresh.specs.States.{ended}
 use Rattle.afresh.proofs.Verdicts.{stack_open}
 use Rattle.afresh.proofs.end_verdict.Goals as goal
 
-pub returns-then-r-leaves_bad : goal.returns-then-r-leaves_bad
-unfolding ended
-returns-then-r-leaves_bad c w = rw (stack_open w c.args.r.depth, ← c.leaves_bad.ensures w, c.if-r-leaves_bad.true)
-
 pub returns : goal.returns
 unfolding ended
-returns c w = rw (stack_open w c.args.r.depth, ← c.leaves_bad.ensures w, c.if-r-leaves_bad.false)
+returns c w = rw (stack_open w c.args.r.depth, ← c.leaves_bad.ensures w)

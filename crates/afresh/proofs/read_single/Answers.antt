@@ -1,6 +1,6 @@
 -- `afresh::read_single` meets its contract. In a default, by the step among the brackets.
 -- Assumes nothing.
-use Rattle.afresh.specs.declared.Fed.TheVariants as fed
+use Rattle.std.specs.Prelude.{None}
 use Rattle.afresh.proofs.Feeding.{sound}
 use Rattle.afresh.proofs.Singles.{single_text, single_on, single_done, single_torn, single_short}
 use Rattle.afresh.proofs.read_single.Goals as goal
@@ -18,4 +18,4 @@ pub returns-in-Torn : goal.returns-in-Torn
 returns-in-Torn c n l k = single_torn c.args.r c.args.b n c.args.stack.now (sound c.args.r n c.args.stack.now l k c.requires) c.at_state-in-Torn.result c.if-r.false c.step-p.new.stack c.step-p.result c.step-p.ensures c.in-Torn.is c.at_state-in-Torn.ensures
 
 pub returns-in-Short : goal.returns-in-Short
-returns-in-Short c n l k = single_short c.args.r c.args.b n c.args.stack.now (sound c.args.r n c.args.stack.now l k c.requires) fed.Short c.if-r.false c.step-p.new.stack c.step-p.result c.step-p.ensures c.in-Short.is
+returns-in-Short c n l k = single_short c.args.r c.args.b n c.args.stack.now (sound c.args.r n c.args.stack.now l k c.requires) None c.if-r.false c.step-p.new.stack c.step-p.result c.step-p.ensures c.in-Short.is

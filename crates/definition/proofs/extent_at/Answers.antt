@@ -1,6 +1,5 @@
 use mathlib.Core.Path.{sym, ◌∙◌}
 use native.Mathlib.Omega.{arith}
-use Rattle.lex.specs.Tokens.{in_definition}
 use Rattle.storing.proofs.Reading.{token_past}
 use Rattle.definition.specs.Extents.{extent_at}
 use Rattle.definition.proofs.Reading.{extent_newline, extent_on, extent_out}

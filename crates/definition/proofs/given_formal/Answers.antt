@@ -1,13 +1,13 @@
--- `formals::given_formal` meets its contract. What is known of the default's end goes through the definition.
+-- `definition::given_formal` meets its contract. What is known of the default's end goes through the definition.
 -- Assumes nothing.
-use Rattle.definition.proofs.Defaults.{given_upto, given_torn, given_short}
+use Rattle.std.proofs.lemmas.Result.{err_from_is_err_and}
+use Rattle.definition.proofs.Defaults.{given_upto, given_err}
 use Rattle.definition.proofs.given_formal.Goals as goal
 
-pub returns-in-Upto : goal.returns-in-Upto
-returns-in-Upto c = given_upto c.args.s.now c.args.t c.args.at c.default_end-r.ensures _ _ _ c.in-Upto.is c.peek.ensures
+pub returns-in_err-stop : goal.returns-in_err-stop
+returns-in_err-stop c =
+    let p = err_from_is_err_and c.from_residual.result c.from_residual.ensures.1 in
+    rw (p.1, p.2) (given_err c.args.s.now c.args.t c.args.at c.in_err-stop.ensures)
 
-pub returns-in-Torn : goal.returns-in-Torn
-returns-in-Torn c = given_torn c.args.s.now c.args.t c.args.at c.default_end-r.ensures c.in-Torn.is
-
-pub returns-in-Short : goal.returns-in-Short
-returns-in-Short c = given_short c.args.s.now c.args.t c.args.at c.default_end-r.ensures c.in-Short.is
+pub returns : goal.returns
+returns c = given_upto c.args.s.now c.args.t c.args.at c.in_ok-stop.ensures c.peek.ensures

@@ -1,20 +1,15 @@
--- `form::push_sized` meets its contract. The length is put, and the part behind it.
+-- `form::push_sized` meets its contract. The length is put, and the bytes behind it.
 -- Assumes nothing.
-use mathlib.Core.List.{List}
-use mathlib.Core.Path.{refl, ap}
-use Prim.Native.Nat.{ℕ}
+use mathlib.Core.Path.{refl}
 use native.Mathlib.Omega.{arith}
-use lib.ListN.{length}
-use Rattle.text.specs.Bytes.{part}
-use Rattle.form.specs.Forms.{two}
-use Rattle.form.proofs.Pushing.{put_as, put_so, put_past, by_then, put_not}
+use Rattle.form.proofs.Pushing.{put_past, by_then, put_not}
 use Rattle.form.proofs.push_sized.Goals as goal
 
-pub push_part-requires : goal.push_part-requires
-push_part-requires c = put_past (put_so _ _ _ _ _ _ c.push_two-r.ensures c.in-Upto.is) (omega arith)
+pub returns-in_err-m : goal.returns-in_err-m
+returns-in_err-m c = rw c.from_residual.ensures (put_not _ _ _ _ _ c.push_two.ensures c.in_err-m.was (λ x. x) c.args.w.now refl)
 
-pub returns-in-Upto : goal.returns-in-Upto
-returns-in-Upto c = by_then (put_so _ _ _ _ _ _ (put_as c.push_two-r.result _ _ _ (λ x. x) (ap (λ (w : List ℕ). two (length w)) c.part_of-p.ensures) c.push_two-r.ensures) c.in-Upto.is) (omega arith) (λ x. x) _ _ refl c.push_part.result c.push_part.ensures
+pub push_bytes-requires : goal.push_bytes-requires
+push_bytes-requires c = put_past c.in_ok-m.ensures (omega arith)
 
-pub returns-in-Short : goal.returns-in-Short
-returns-in-Short c = let a = c.args in put_not _ _ _ _ _ _ (put_as c.push_two-r.result _ _ _ (λ x. x) (ap (λ (w : List ℕ). two (length w)) c.part_of-p.ensures) c.push_two-r.ensures) (λ x. x) (part a.s.now a.at a.end) refl c.in-Short.is
+pub returns : goal.returns
+returns c = by_then c.in_ok-m.ensures (omega arith) (λ x. x) _ _ refl c.push_bytes.result c.push_bytes.ensures

@@ -4,14 +4,14 @@ use mathlib.Core.Path.{refl}
 use native.Mathlib.Omega.{arith}
 use Rattle.text.specs.Bytes.{part}
 use Rattle.form.specs.Forms.{sized}
-use Rattle.form.proofs.Pushing.{put_so, put_past, by_then, put_not}
+use Rattle.form.proofs.Pushing.{put_past, by_then, put_not}
 use Rattle.form.proofs.push_stored.Goals as goal
 
+pub returns-in_err-m : goal.returns-in_err-m
+returns-in_err-m c = let a = c.args in rw c.from_residual.ensures (put_not _ _ _ _ _ c.push_byte.ensures c.in_err-m.was (λ x. x) (sized (part a.work.now 0 a.k)) refl)
+
 pub push_sized-requires : goal.push_sized-requires
-push_sized-requires c = put_past (put_so _ _ _ _ _ _ c.push_byte-r.ensures c.in-Upto.is) (omega arith)
+push_sized-requires c = put_past c.in_ok-m.ensures (omega arith)
 
-pub returns-in-Upto : goal.returns-in-Upto
-returns-in-Upto c = by_then (put_so _ _ _ _ _ _ c.push_byte-r.ensures c.in-Upto.is) (omega arith) (λ x. x) _ _ refl c.push_sized.result c.push_sized.ensures
-
-pub returns-in-Short : goal.returns-in-Short
-returns-in-Short c = let a = c.args in put_not _ _ _ _ _ _ c.push_byte-r.ensures (λ x. x) (sized (part a.work.now 0 a.k)) refl c.in-Short.is
+pub returns : goal.returns
+returns c = by_then c.in_ok-m.ensures (omega arith) (λ x. x) _ _ refl c.push_sized.result (rw c.part_of.ensures at c.push_sized.ensures)

@@ -38,24 +38,24 @@ pub returns-then-t-eq-NEWLINE : goal.returns-then-t-eq-NEWLINE
 unfolding stored
 returns-then-t-eq-NEWLINE c = judged_end _ _ _ _ _ _ c.loop-i.invariant (pieces_stop _ _ _ _ _ _ c.in_definition.ensures c.token_at-t.ensures c.if-s-i.false c.if-t-eq-NEWLINE.true) c.end_verdict-then-t-eq-NEWLINE.ensures
 
-pub read_piece-f-requires : goal.read_piece-f-requires
-read_piece-f-requires c = c.loop-i.invariant.sound
+pub read_piece-requires : goal.read_piece-requires
+read_piece-requires c = c.loop-i.invariant.sound
 
 pub loop-i-smaller : goal.loop-i-smaller
 loop-i-smaller c = omega (arith, c.loop-i-test.true, token_past _ _ _ _ c.token_at-t.ensures c.if-s-i.false)
 
 pub loop-i-preserved : goal.loop-i-preserved
-loop-i-preserved c = feeding_next c.loop-i.invariant (piece c.args.s.now c.loop-i.marks c.token_at-t.result) _ (pieces_next _ _ _ _ _ _ c.in_definition.ensures c.token_at-t.ensures c.if-s-i.false c.if-t-eq-NEWLINE.false c.loop-i-test.true _ c.marks_after-marks.ensures) _ _ _ c.read_piece-f.ensures c.in-On.is c.read_piece-f.auto.name c.read_piece-f.auto.stack
+loop-i-preserved c = feeding_next c.loop-i.invariant (piece c.args.s.now c.loop-i.marks c.token_at-t.result) _ (pieces_next _ _ _ _ _ _ c.in_definition.ensures c.token_at-t.ensures c.if-s-i.false c.if-t-eq-NEWLINE.false c.loop-i-test.true _ c.marks_after-marks.ensures) c.in_ok-q.ensures c.read_piece.auto.name c.read_piece.auto.stack
 
-pub shape_of-name-in-Short : goal.shape_of-name-in-Short
-shape_of-name-in-Short c = c.read_piece-f.auto.name ∙ c.loop-i.invariant.same_name
+pub shape_of-name-in_err-q : goal.shape_of-name-in_err-q
+shape_of-name-in_err-q c = c.read_piece.auto.name ∙ c.loop-i.invariant.same_name
 
-pub shape_of-stack-in-Short : goal.shape_of-stack-in-Short
-shape_of-stack-in-Short c = c.read_piece-f.auto.stack ∙ c.loop-i.invariant.same_stack
+pub shape_of-stack-in_err-q : goal.shape_of-stack-in_err-q
+shape_of-stack-in_err-q c = c.read_piece.auto.stack ∙ c.loop-i.invariant.same_stack
 
-pub returns-in-Short : goal.returns-in-Short
+pub returns-in_err-q : goal.returns-in_err-q
 unfolding stored
-returns-in-Short c = judged_short (pieces_length c.args.s.now c.args.end in_definition c.args.at false) refl (feeding_short c.loop-i.invariant (piece c.args.s.now c.loop-i.marks c.token_at-t.result) _ (pieces_next _ _ _ _ _ _ c.in_definition.ensures c.token_at-t.ensures c.if-s-i.false c.if-t-eq-NEWLINE.false c.loop-i-test.true _ refl) _ _ _ c.read_piece-f.ensures c.in-Short.is)
+returns-in_err-q c = judged_short (pieces_length c.args.s.now c.args.end in_definition c.args.at false) c.from_residual.ensures (feeding_short c.loop-i.invariant (piece c.args.s.now c.loop-i.marks c.token_at-t.result) _ (pieces_next _ _ _ _ _ _ c.in_definition.ensures c.token_at-t.ensures c.if-s-i.false c.if-t-eq-NEWLINE.false c.loop-i-test.true _ refl) c.in_err-q.ensures)
 
 pub end_verdict-requires-2 : goal.end_verdict-requires-2
 end_verdict-requires-2 c = sound_count c.loop-i.invariant.sound

@@ -10,14 +10,12 @@ use Rattle.judging.proofs.read_escape.Goals as goal
 pub returns-then-b-eq10 : goal.returns-then-b-eq10
 returns-then-b-eq10 c = simp (eq-eqb _ _ c.if-b-eq10.true) (read_none _ _ _ c.requires)
 
-pub read_byte-requires : goal.read_byte-requires
-unfolding reading
-read_byte-requires c = (feeding_next (feeding_first c.requires) (92 ∷ []) (c.args.b ∷ []) refl _ _ _ c.read_byte-f.ensures c.in-On.is c.read_byte-f.auto.name c.read_byte-f.auto.stack).sound
+pub returns-in_err-q : goal.returns-in_err-q
+returns-in_err-q c = rw c.from_residual.ensures (simp (ne_eqb _ _ c.if-b-eq10.false) (feeding_short (feeding_first c.requires) (92 ∷ []) (c.args.b ∷ []) refl c.in_err-q.ensures))
 
-pub returns-in-On : goal.returns-in-On
-unfolding reading
-returns-in-On c = simp (ne_eqb _ _ c.if-b-eq10.false) (feeding_last (feeding_next (feeding_first c.requires) (92 ∷ []) (c.args.b ∷ []) refl _ _ _ c.read_byte-f.ensures c.in-On.is c.read_byte-f.auto.name c.read_byte-f.auto.stack) c.read_byte.new.name c.read_byte.new.stack c.read_byte.result c.read_byte.ensures)
+pub read_byte-requires-2 : goal.read_byte-requires-2
+read_byte-requires-2 c = c.in_ok-q.ensures.1
 
-pub returns-in-Short : goal.returns-in-Short
+pub returns : goal.returns
 unfolding reading
-returns-in-Short c = simp (ne_eqb _ _ c.if-b-eq10.false) (feeding_short (feeding_first c.requires) (92 ∷ []) (c.args.b ∷ []) refl _ _ _ c.read_byte-f.ensures c.in-Short.is)
+returns c = simp (ne_eqb _ _ c.if-b-eq10.false) (feeding_last (feeding_next (feeding_first c.requires) (92 ∷ []) (c.args.b ∷ []) refl c.in_ok-q.ensures c.read_byte.auto.name c.read_byte.auto.stack) c.read_byte-2.new.name c.read_byte-2.new.stack c.read_byte-2.result c.read_byte-2.ensures)

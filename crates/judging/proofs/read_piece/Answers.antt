@@ -20,8 +20,8 @@ returns-then-t-eq-CONTINUATION c = simp (c.if-t.false, eq-eqb _ _ c.if-t-eq-CONT
 
 pub returns-then-t-eq-STRING : goal.returns-then-t-eq-STRING
 unfolding piece
-returns-then-t-eq-STRING c = simp (c.if-t.false, ne_eqb _ _ c.if-t-eq-CONTINUATION.false, eq-eqb _ _ c.if-t-eq-STRING.true) c.read_joined.ensures
+returns-then-t-eq-STRING c = simp (c.if-t.false, ne_eqb _ _ c.if-t-eq-CONTINUATION.false, eq-eqb _ _ c.if-t-eq-STRING.true) (rw c.part_of-w.ensures at c.read_joined.ensures)
 
 pub returns : goal.returns
 unfolding piece
-returns c = simp (c.if-t.false, ne_eqb _ _ c.if-t-eq-CONTINUATION.false, ne_eqb _ _ c.if-t-eq-STRING.false) c.read_part.ensures
+returns c = simp (c.if-t.false, ne_eqb _ _ c.if-t-eq-CONTINUATION.false, ne_eqb _ _ c.if-t-eq-STRING.false) (rw c.part_of-w.ensures at c.read_bytes.ensures)

@@ -1,6 +1,5 @@
 use mathlib.Core.Path.{refl, sym, ◌∙◌}
 use native.Mathlib.Omega.{arith}
-use Rattle.lex.specs.Tokens.{in_definition}
 use Rattle.storing.specs.Graves.{has_grave}
 use Rattle.storing.proofs.Reading.{token_past}
 use Rattle.storing.proofs.Accents.{grave_out, grave_past, grave_stop, grave_hit, grave_next}

@@ -1,14 +1,10 @@
--- `storing::put_joined` meets its contract. The invariant: what is added so far and what the bytes from `i` on give are what those from `at` on give.
+-- `storing::put_joined` meets its contract. The invariant: what is added so far and what the bytes from the next one on give are what all of them give.
 -- Assumes nothing.
-use mathlib.Core.Bool.{false}
-use Prim.Native.Nat.{◌-◌}
+use Rattle.std.proofs.Common.{false, drop}
 use Rattle.text.specs.Bytes.{part}
 use Rattle.storing.specs.Stored.{joined_from}
 use Rattle.storing.proofs.Adding.{Adding}
 use Rattle.storing.proofs.put_joined.Given as goal
 
-abbrev pub invariant-loop-i : goal.invariant-loop-i
-invariant-loop-i l = Adding l.initial.out l.out l.from l.n l.k (joined_from l.escaped (part l.s l.i l.end)) (joined_from false (part l.s l.at l.end))
-
-abbrev pub decreases-loop-i : goal.decreases-loop-i
-decreases-loop-i l = l.end - l.i
+abbrev pub invariant-loop-b : goal.invariant-loop-b
+invariant-loop-b l = Adding l.initial.out l.out l.from l.n l.k (joined_from l.escaped (drop l.b-index l.b-items)) (joined_from false (part l.s l.at l.end))

@@ -30,17 +30,17 @@ shape_of-out-then-t-eq-NEWLINE c = adding_length c.loop-i.invariant
 pub returns-then-t-eq-NEWLINE : goal.returns-then-t-eq-NEWLINE
 returns-then-t-eq-NEWLINE c = stored_at c.requires (adding_end c.loop-i.invariant (pieces_stop _ _ _ _ _ _ c.in_definition.ensures c.token_at-t.ensures c.if-s-i.false c.if-t-eq-NEWLINE.true)) c.trim_end-then-t-eq-NEWLINE.ensures
 
-pub put_piece-r-requires : goal.put_piece-r-requires
-put_piece-r-requires c = adding_past c.loop-i.invariant
+pub put_piece-requires : goal.put_piece-requires
+put_piece-requires c = adding_past c.loop-i.invariant
 
 pub loop-i-smaller : goal.loop-i-smaller
 loop-i-smaller c = omega (arith, c.loop-i-test.true, token_past _ _ _ _ c.token_at-t.ensures c.if-s-i.false)
 
 pub loop-i-preserved : goal.loop-i-preserved
-loop-i-preserved c = adding_next c.loop-i.invariant _ _ (pieces_next _ _ _ _ _ _ c.in_definition.ensures c.token_at-t.ensures c.if-s-i.false c.if-t-eq-NEWLINE.false c.loop-i-test.true _ c.marks_after-marks.ensures) _ _ c.put_piece-r.ensures c.in-Upto.is
+loop-i-preserved c = adding_next c.loop-i.invariant _ _ (pieces_next _ _ _ _ _ _ c.in_definition.ensures c.token_at-t.ensures c.if-s-i.false c.if-t-eq-NEWLINE.false c.loop-i-test.true _ c.marks_after-marks.ensures) c.in_ok-k.ensures
 
-pub returns-in-Short : goal.returns-in-Short
-returns-in-Short c = omega (arith, pieces_length c.args.s.now c.args.end in_definition c.args.at false, adding_short c.loop-i.invariant _ _ (pieces_next _ _ _ _ _ _ c.in_definition.ensures c.token_at-t.ensures c.if-s-i.false c.if-t-eq-NEWLINE.false c.loop-i-test.true _ refl) _ _ c.put_piece-r.ensures c.in-Short.is)
+pub returns-in_err-k : goal.returns-in_err-k
+returns-in_err-k c = rw c.from_residual.ensures (omega (arith, pieces_length c.args.s.now c.args.end in_definition c.args.at false, adding_short c.loop-i.invariant _ _ (pieces_next _ _ _ _ _ _ c.in_definition.ensures c.token_at-t.ensures c.if-s-i.false c.if-t-eq-NEWLINE.false c.loop-i-test.true _ refl) c.in_err-k.ensures))
 
 pub trim_end-requires-2 : goal.trim_end-requires-2
 trim_end-requires-2 c = adding_past c.loop-i.invariant

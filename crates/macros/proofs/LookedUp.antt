@@ -8,7 +8,7 @@ use lib.ListN.{length, get_or, length-append}
 use Rattle.definition.specs.Definitions.{Macro, macro}
 use Rattle.form.specs.Forms.{head_form, form_of, list_form}
 use Rattle.store.specs.Stores.{macro_at, find}
-use Rattle.store.specs.declared.Found.TheVariants.{At, Missing}
+use Rattle.std.proofs.Common.{Ok, Err}
 use Rattle.genuine.specs.Layout.{left_in}
 use Rattle.genuine.specs.Leaving.{LeftBy}
 use Rattle.genuine.specs.declared.Checked.{Checked}
@@ -35,10 +35,10 @@ form_some (macro n ps t) e =
     omega (arith, ap length e, length-append (n ++ list_form ps) t, length-append n (list_form ps))
 
 -- a macro that is defined is shown, one that is not is not
-pub defined_shown : (w : List ℕ) (ms : List Macro) (i : ℕ) → find w ms ≡ At i → shown w ms ≡ [] → ⊥
+pub defined_shown : (w : List ℕ) (ms : List Macro) (i : ℕ) → find w ms ≡ Ok i → shown w ms ≡ [] → ⊥
 unfolding shown
 defined_shown w ms i e h = form_some (macro_at ms i) (rw e at h)
 
-pub missing_empty : (w : List ℕ) (ms : List Macro) (i : ℕ) → find w ms ≡ Missing i → shown w ms ≡ []
+pub missing_empty : (w : List ℕ) (ms : List Macro) (i : ℕ) → find w ms ≡ Err i → shown w ms ≡ []
 unfolding shown
 missing_empty w ms i e = rw e

@@ -1,11 +1,9 @@
 -- Look up (01): "a macro name; answer: its stored form shown as a part of the lent macro bytes, empty exactly if undefined".
 -- Assumes nothing.
-use Rattle.std.specs.Prelude.{ℕ, cond, ◌≡◌, List, [], ◌∷◌, eqb}
+use Rattle.std.specs.Prelude.{ℕ, cond, ◌≡◌, List, [], ◌∷◌, eqb, Result, Ok, Err}
 use Rattle.definition.specs.Definitions.{Macro}
 use Rattle.form.specs.Forms.{form_of}
 use Rattle.store.specs.Stores.{macro_at, find}
-use Rattle.store.specs.declared.Found.{Found}
-use Rattle.store.specs.declared.Found.TheVariants.{At, Missing}
 use Rattle.genuine.specs.Layout.{left_in}
 use Rattle.genuine.specs.Leaving.{LeftBy}
 use Rattle.genuine.specs.declared.Checked.TheVariants.{Foreign}
@@ -15,9 +13,9 @@ abbrev pub plainly : List ℕ → List ℕ
 plainly [] = []
 plainly (x ∷ w) = cond (eqb x 92) w (x ∷ w)
 
-abbrev pub shown_by : Found → List Macro → List ℕ
-shown_by (At i) ms = form_of (macro_at ms i)
-shown_by (Missing i) ms = []
+abbrev pub shown_by : Result ℕ ℕ → List Macro → List ℕ
+shown_by (Ok i) ms = form_of (macro_at ms i)
+shown_by (Err i) ms = []
 
 -- the stored form of the macro of that name, empty if there is none
 unfoldable pub shown : List ℕ → List Macro → List ℕ

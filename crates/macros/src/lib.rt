@@ -15,7 +15,7 @@ use form::{FormWritten, write_form};
 use genuine::{Checked, check_store};
 use lex::{ESCAPED, NAME, in_file, token_at};
 use names::directive_of;
-use store::{Defined, Found, define, find, form_at};
+use store::{define, find, form_at};
 use text::{part_of, same};
 
 // A definition in a text, read and stored: the number of macros then and its end; or barred by 2 to 6 at a place; or bad (11);
@@ -47,13 +47,13 @@ fn shown<'a>(bytes: &'a [u8], records: &[[u32; 4]], count: usize, w: &[u8]) -> &
 {
     let f = find(bytes, records, count, w);
     match f {
-        Found::At(i) => {
+        Ok(i) => {
             if count <= i {
                 return part_of(bytes, 0, 0);
             }
             form_at(bytes, records, count, i)
         }
-        Found::Missing(_) => part_of(bytes, 0, 0),
+        Err(_) => part_of(bytes, 0, 0),
     }
 }
 
@@ -96,8 +96,8 @@ fn store_good(
                 text,
             );
             match d {
-                Defined::Done(k) => ReadIn::Done(k, end),
-                Defined::NoRoom => ReadIn::NoRoom,
+                Some(k) => ReadIn::Done(k, end),
+                None => ReadIn::NoRoom,
             }
         }
         FormWritten::Short => ReadIn::NoRoom,
@@ -244,7 +244,7 @@ fn define_empty(
     records: &mut [[u32; 4]],
     count: usize,
     form: &mut [u8],
-) -> Defined
+) -> Option<usize>
     requires { (length bytes.old ≤ 65536) × (count ≤ 256) × (Stored bytes.old records.old count) × (length w.now < length form.old) }
     ensures { (ms : List Macro) → Holds ms bytes.old records.old count → Defines (length records.old) (length bytes.old) (defineMacro (macro w.now [] []) ms) ms bytes.new records.new result }
 {
@@ -275,12 +275,12 @@ pub fn define_starts(
         let w = plain_name(range_of(s, ranges[i]));
         let d = define_empty(w, bytes, records, n, form);
         match d {
-            Defined::Done(k) => {
+            Some(k) => {
                 n = k;
                 i += 1;
                 continue;
             }
-            Defined::NoRoom => {
+            None => {
                 return n;
             }
         }

@@ -9,19 +9,19 @@ pub define_empty-d-requires : goal.define_empty-d-requires
 define_empty-d-requires c = going_needs c.requires c.loop-i.invariant c.loop-i-test.true c.range_of.ensures.0 c.plain_name-w.ensures
 
 pub loop-i-preserved : goal.loop-i-preserved
-loop-i-preserved c = going_next c.requires c.loop-i.invariant c.loop-i-test.true c.range_of.ensures.0 c.plain_name-w.ensures c.define_empty-d.ensures c.in-Done.k c.in-Done.is c.define_empty-d.auto.bytes c.define_empty-d.auto.records c.define_empty-d.auto.form
+loop-i-preserved c = going_next c.requires c.loop-i.invariant c.loop-i-test.true c.range_of.ensures.0 c.plain_name-w.ensures c.define_empty-d.ensures c.in-Some.k c.in-Some.is c.define_empty-d.auto.bytes c.define_empty-d.auto.records c.define_empty-d.auto.form
 
-pub shape_of-bytes-in-NoRoom : goal.shape_of-bytes-in-NoRoom
-shape_of-bytes-in-NoRoom c = c.define_empty-d.auto.bytes ∙ c.loop-i.invariant.bytes
+pub shape_of-bytes-in-None : goal.shape_of-bytes-in-None
+shape_of-bytes-in-None c = c.define_empty-d.auto.bytes ∙ c.loop-i.invariant.bytes
 
-pub shape_of-records-in-NoRoom : goal.shape_of-records-in-NoRoom
-shape_of-records-in-NoRoom c = c.define_empty-d.auto.records ∙ c.loop-i.invariant.rows
+pub shape_of-records-in-None : goal.shape_of-records-in-None
+shape_of-records-in-None c = c.define_empty-d.auto.records ∙ c.loop-i.invariant.rows
 
-pub shape_of-form-in-NoRoom : goal.shape_of-form-in-NoRoom
-shape_of-form-in-NoRoom c = c.define_empty-d.auto.form ∙ c.loop-i.invariant.forms
+pub shape_of-form-in-None : goal.shape_of-form-in-None
+shape_of-form-in-None c = c.define_empty-d.auto.form ∙ c.loop-i.invariant.forms
 
-pub returns-in-NoRoom : goal.returns-in-NoRoom
-returns-in-NoRoom c = absurd (going_never c.requires c.loop-i.invariant c.loop-i-test.true c.range_of.ensures.0 c.plain_name-w.ensures c.define_empty-d.ensures c.in-NoRoom.is)
+pub returns-in-None : goal.returns-in-None
+returns-in-None c = absurd (going_never c.requires c.loop-i.invariant c.loop-i-test.true c.range_of.ensures.0 c.plain_name-w.ensures c.define_empty-d.ensures c.in-None.is)
 
 pub shape_of-bytes : goal.shape_of-bytes
 shape_of-bytes c = c.loop-i.invariant.bytes

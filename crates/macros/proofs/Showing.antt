@@ -14,11 +14,9 @@ use Rattle.definition.specs.Definitions.{Macro}
 use Rattle.form.specs.Forms.{form_of}
 use Rattle.store.specs.Stores.{macro_at, find}
 use Rattle.store.specs.Buffers.{Holds}
-use Rattle.std.proofs.Common.{Result, Ok, Err}
+use Rattle.std.proofs.Common.{Result, Ok, Err, Option, Some, None}
 use Rattle.store.proofs.Places.{found_below}
 use Rattle.genuine.specs.Layout.{left_in}
-use Rattle.genuine.specs.declared.Checked.{Checked}
-use Rattle.genuine.specs.declared.Checked.TheVariants.{Left, Foreign}
 use Rattle.genuine.proofs.Accepting.{left_complete}
 use Rattle.macros.specs.Looking.{plainly, shown_by, shown, Shows}
 
@@ -61,21 +59,21 @@ module _ (w : List ℕ) {ms : List Macro} {b : List ℕ} {r : List (List ℕ)} {
 
 -- ---- a store
 
-module _ {b : List ℕ} {r : List (List ℕ)} {name p : List ℕ} {c : Checked} (e : c ≡ left_in b r) where
-  pub shows_left : (n : ℕ) → c ≡ Left n → (w : List ℕ) → w ≡ plainly name → ((ms : List Macro) → Holds ms b r n → p ≡ shown w ms)
+module _ {b : List ℕ} {r : List (List ℕ)} {name p : List ℕ} {c : Option ℕ} (e : c ≡ left_in b r) where
+  pub shows_left : (n : ℕ) → c ≡ Some n → (w : List ℕ) → w ≡ plainly name → ((ms : List Macro) → Holds ms b r n → p ≡ shown w ms)
       → Shows b r name p
   shows_left n k w q s = record {
     left = λ ms l.
-        let g : left_in b r ≡ Left (length ms) = left_complete ms b r l in
+        let g : left_in b r ≡ Some (length ms) = left_complete ms b r l in
         let z : n ≡ length ms = cc in
         s ms (subst (λ (i : ℕ). Holds ms b r i) (sym z) l.holds) ∙ ap (λ (v : List ℕ). shown v ms) q;
     foreign = λ g. cc;
   }
 
-  pub shows_foreign : c ≡ Foreign → p ≡ [] → Shows b r name p
+  pub shows_foreign : c ≡ None → p ≡ [] → Shows b r name p
   shows_foreign k q = record {
     left = λ ms l.
-        let g : left_in b r ≡ Left (length ms) = left_complete ms b r l in
+        let g : left_in b r ≡ Some (length ms) = left_complete ms b r l in
         cc;
     foreign = λ g. q;
   }

@@ -12,7 +12,7 @@ ghost use Rattle.macros.specs.Starting.{is_start_name, range_end, range_of, name
 
 use definition::{Judged, head_at, judge_definition};
 use form::{FormWritten, write_form};
-use genuine::{Checked, check_store};
+use genuine::check_store;
 use lex::{ESCAPED, NAME, in_file, token_at};
 use names::directive_of;
 use store::{define, find, form_at};
@@ -64,8 +64,8 @@ pub fn look_up<'a>(bytes: &'a [u8], records: &[[u32; 4]], name: &[u8]) -> &'a [u
 {
     let c = check_store(records, bytes);
     match c {
-        Checked::Left(n) => shown(bytes, records, n, plain_name(name)),
-        Checked::Foreign => part_of(bytes, 0, 0),
+        Some(n) => shown(bytes, records, n, plain_name(name)),
+        None => part_of(bytes, 0, 0),
     }
 }
 

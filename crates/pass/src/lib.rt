@@ -18,7 +18,7 @@ ghost use Rattle.pass.specs.Judging.{verdict_of, Unfolds, Kept, Works};
 
 use arguments::Sought;
 use expand::usages::{accept, is_usage};
-use genuine::{Checked, check_store};
+use genuine::check_store;
 use lex::{in_text, marks_after, token_at};
 use packed::{Record, read};
 use pending::{name_of, numbers_of, pend_of};
@@ -294,7 +294,7 @@ pub fn pass(bytes: &[u8], records: &[[u32; 4]]) -> Answer
 {
     let c = check_store(records, bytes);
     match c {
-        Checked::Left(n) => pass_stored(bytes, records, n),
-        Checked::Foreign => Answer::Foreign,
+        Some(n) => pass_stored(bytes, records, n),
+        None => Answer::Foreign,
     }
 }

@@ -167,14 +167,10 @@ fn range_end(v: [u32; 2]) -> usize
 fn named_among(s: &[u8], ranges: &[[u32; 2]], at: usize, w: &[u8]) -> bool
     ensures { result ≡ named_among s.now w.now (drop at ranges.now) }
 {
-    let mut i = at;
-    while i < ranges.len() {
-        if same(w, plain_name(range_of(s, ranges[i]))) {
-            return true;
-        }
-        i += 1;
-    }
-    false
+    ranges
+        .iter()
+        .skip(at)
+        .any(|&v| same(w, plain_name(range_of(s, v))))
 }
 
 // Whether range `i` is inside the store and has a start macro's name that none of those behind it has.
@@ -196,12 +192,10 @@ fn is_start_at(s: &[u8], ranges: &[[u32; 2]], i: usize) -> bool
 fn all_starts(s: &[u8], ranges: &[[u32; 2]]) -> bool
     ensures { result ≡ all_starts s.now ranges.now }
 {
-    let mut i = 0;
-    while i < ranges.len() {
+    for i in 0..ranges.len() {
         if !is_start_at(s, ranges, i) {
             return false;
         }
-        i += 1;
     }
     true
 }
@@ -211,12 +205,10 @@ fn starts_size(s: &[u8], ranges: &[[u32; 2]]) -> usize
     requires { length ranges.now ≤ 256 }
     ensures { result ≡ starts_size s.now ranges.now }
 {
-    let mut i = 0;
     let mut n = 0;
-    while i < ranges.len() {
-        let w = plain_name(range_of(s, ranges[i]));
+    for &v in ranges {
+        let w = plain_name(range_of(s, v));
         n += w.len() + 1;
-        i += 1;
     }
     n
 }
@@ -237,7 +229,7 @@ pub fn starts_fit(s: &[u8], ranges: &[[u32; 2]], records: usize, bytes: usize) -
     starts_size(s, ranges) <= bytes
 }
 
-// Defines the macro `w` empty, with bytes for its stored form.
+// Defines the macro `w` empty, with bytes for its stored form: the number of macros then, or `None` where there is no room.
 fn define_empty(
     w: &[u8],
     bytes: &mut [u8],
@@ -249,11 +241,7 @@ fn define_empty(
     ensures { (ms : List Macro) → Holds ms bytes.old records.old count → Defines (length records.old) (length bytes.old) (defineMacro (macro w.now [] []) ms) ms bytes.new records.new result }
 {
     let n = w.len();
-    let mut i = 0;
-    while i < n {
-        form[i] = w[i];
-        i += 1;
-    }
+    form[0..n].copy_from_slice(w);
     form[n] = 0;
     define(bytes, records, count, part_of(form, 0, n + 1), n, n + 1)
 }
@@ -269,20 +257,12 @@ pub fn define_starts(
     requires { Starts s.now ranges.now bytes.old records.old form.old }
     ensures { Holds (started s.now ranges.now) bytes.new records.new result }
 {
-    let mut i = 0;
     let mut n = 0;
-    while i < ranges.len() {
-        let w = plain_name(range_of(s, ranges[i]));
-        let d = define_empty(w, bytes, records, n, form);
-        match d {
-            Some(k) => {
-                n = k;
-                i += 1;
-                continue;
-            }
-            None => {
-                return n;
-            }
+    for &v in ranges {
+        let w = plain_name(range_of(s, v));
+        match define_empty(w, bytes, records, n, form) {
+            Some(k) => n = k,
+            None => return n,
         }
     }
     n

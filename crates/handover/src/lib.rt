@@ -56,14 +56,7 @@ fn is_file_name(w: &[u8]) -> bool
     if (w.len() < 1) | (255 < w.len()) {
         return false;
     }
-    let mut i = 0;
-    while i < w.len() {
-        if !is_name_byte(w[i]) {
-            return false;
-        }
-        i += 1;
-    }
-    true
+    w.iter().all(|&b| is_name_byte(b))
 }
 
 fn is_entry(s: &[u8], v: [u32; 5]) -> bool
@@ -87,14 +80,7 @@ fn is_entry(s: &[u8], v: [u32; 5]) -> bool
 fn all_entries(s: &[u8], table: &[[u32; 5]]) -> bool
     ensures { result ≡ all_entries s.now table.now }
 {
-    let mut i = 0;
-    while i < table.len() {
-        if !is_entry(s, table[i]) {
-            return false;
-        }
-        i += 1;
-    }
-    true
+    table.iter().all(|&v| is_entry(s, v))
 }
 
 fn is_named(s: &[u8], v: [u32; 5], form: u32, w: &[u8]) -> bool
@@ -110,14 +96,10 @@ fn is_named(s: &[u8], v: [u32; 5], form: u32, w: &[u8]) -> bool
 pub fn entry_of(s: &[u8], table: &[[u32; 5]], form: u32, w: &[u8]) -> usize
     ensures { result ≡ entry_of s.now form w.now table.now }
 {
-    let mut i = 0;
-    while i < table.len() {
-        if is_named(s, table[i], form, w) {
-            return i;
-        }
-        i += 1;
-    }
-    i
+    table
+        .iter()
+        .position(|&v| is_named(s, v, form, w))
+        .unwrap_or(table.len())
 }
 
 // Whether nothing of the hand-over gives refusal 1, by the lengths of the lent text, macro records and macro bytes.

@@ -3,7 +3,7 @@
 use mathlib.Core.Path.{◌≡◌, refl, sym, ap, ◌∙◌}
 use mathlib.Core.Bool.{Bool, true, false, not, ◌&&◌, ◌||◌}
 use mathlib.Core.List.{List, [], ◌∷◌}
-use Prim.Native.Nat.{ℕ, zero, suc, ◌+◌, ◌≤◌, ◌<◌}
+use Prim.Native.Nat.{ℕ, zero, suc, ◌≤◌, ◌<◌}
 use native.Mathlib.Omega.{arith}
 use borrow.Author.Tests.{leb-true, leb-false, ltb-true, ltb-false, lt-ltb, le-ltb, lt-leb, le-leb, eq-eqb, ne_eqb, not-true, not-false}
 use lib.Dec.{leb, ltb}
@@ -13,7 +13,7 @@ use Rattle.std.specs.Option.{MatchOption, unwrap_or}
 use Rattle.std.proofs.Common.{Option}
 use Rattle.std.proofs.lemmas.Iterator.{index_from_first}
 use Rattle.std.proofs.lemmas.List.Recursion.{same_from_clauses}
-use Rattle.text.specs.Bytes.{same, part}
+use Rattle.text.specs.Bytes.{same}
 use Rattle.macros.specs.Starting.{starts_fit}
 use Rattle.handover.specs.Entries.{name_end, body_end, entry_name, is_name_byte, name_bytes, is_file_name, is_entry, all_entries, is_named, entry_of}
 use Rattle.handover.specs.Sizes.{HandOver, Rooms, is_sound}
@@ -45,10 +45,7 @@ refused p e h = not-true p (sym e ∙ h)
 passed : {t : Bool} (p : Bool) → t ≡ not p → t ≡ false → p ≡ true
 passed p e h = not-false p (sym e ∙ h)
 
--- ---- a part, by numbers read
-
-pub part_by : (s : List ℕ) {a b x y : ℕ} → a ≡ x → b ≡ y → {w : List ℕ} → w ≡ part s a (a + b) → w ≡ part s x (x + y)
-part_by s p q e = e ∙ rw (p, q)
+-- ---- a read
 
 -- the default of a read inside a list
 pub read_any : {A : Type 0} (l : List A) (i : ℕ) (d e : A) → i < length l → get_or l i d ≡ get_or l i e
@@ -81,27 +78,27 @@ module _ (s v : List ℕ) where
   unfolding is_entry
   entry_form h = rw (lt-leb (get_or v 0 0) 1 h)
 
-  module _ (h₀ : get_or v 0 0 ≤ 1) {a b : ℕ} (p : a ≡ get_or v 1 0) (q : b ≡ get_or v 2 0) where
-    pub entry_name_out : length s < a + b → false ≡ is_entry s v
+  module _ (h₀ : get_or v 0 0 ≤ 1) where
+    pub entry_name_out : length s < name_end v → false ≡ is_entry s v
     unfolding is_entry
-    entry_name_out l = rw (le-leb (get_or v 0 0) 1 h₀, lt-leb (name_end v) (length s) (omega arith))
+    entry_name_out l = rw (le-leb (get_or v 0 0) 1 h₀, lt-leb (name_end v) (length s) l)
 
-    module _ (h₁ : a + b ≤ length s) {c d : ℕ} (t : c ≡ get_or v 3 0) (u : d ≡ get_or v 4 0) where
-      pub entry_body_out : length s < c + d → false ≡ is_entry s v
+    module _ (h₁ : name_end v ≤ length s) where
+      pub entry_body_out : length s < body_end v → false ≡ is_entry s v
       unfolding is_entry
-      entry_body_out l = rw (le-leb (get_or v 0 0) 1 h₀, le-leb (name_end v) (length s) (omega arith), lt-leb (body_end v) (length s) (omega arith))
+      entry_body_out l = rw (le-leb (get_or v 0 0) 1 h₀, le-leb (name_end v) (length s) h₁, lt-leb (body_end v) (length s) l)
 
-      module _ (h₂ : c + d ≤ length s) where
+      module _ (h₂ : body_end v ≤ length s) where
         pub entry_body_long : 65535 < get_or v 4 0 → false ≡ is_entry s v
         unfolding is_entry
         entry_body_long l =
-            rw (le-leb (get_or v 0 0) 1 h₀, le-leb (name_end v) (length s) (omega arith), le-leb (body_end v) (length s) (omega arith), lt-leb (get_or v 4 0) 65535 l)
+            rw (le-leb (get_or v 0 0) 1 h₀, le-leb (name_end v) (length s) h₁, le-leb (body_end v) (length s) h₂, lt-leb (get_or v 4 0) 65535 l)
 
         pub entry_by_name : get_or v 4 0 ≤ 65535 → {w : List ℕ} → w ≡ entry_name s v → {x : Bool} → x ≡ is_file_name w → x ≡ is_entry s v
         unfolding is_entry
         entry_by_name l e f =
             f ∙ ap is_file_name e
-            ∙ rw (le-leb (get_or v 0 0) 1 h₀, le-leb (name_end v) (length s) (omega arith), le-leb (body_end v) (length s) (omega arith), le-leb (get_or v 4 0) 65535 l)
+            ∙ rw (le-leb (get_or v 0 0) 1 h₀, le-leb (name_end v) (length s) h₁, le-leb (body_end v) (length s) h₂, le-leb (get_or v 4 0) 65535 l)
 
 -- ---- whether an entry has a form and name
 

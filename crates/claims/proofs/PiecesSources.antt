@@ -18,8 +18,7 @@ use Rattle.lex.proofs.Tests.{by_test}
 use Rattle.lex.proofs.Listing.{by_tokens, file_mode, tokens_out}
 use Rattle.definition.specs.Definitions.{Parameter, parameter, Macro, macro}
 use Rattle.store.specs.Stores.{macro_at, find}
-use Rattle.store.specs.declared.Found.{Found}
-use Rattle.store.specs.declared.Found.TheVariants.{At, Missing}
+use Rattle.std.proofs.Common.{Result, Ok, Err}
 use Rattle.sets.specs.Sets.{elem, insert_asc}
 use Rattle.pending.specs.Pending.{Pending, file_token, file_tokens, file_from, text_token, text_tokens, is_spacing, View, blanks, calls, names, opens, closes, commas, bars, plain, view, is_barred}
 use Rattle.pending.proofs.Viewing.{free_bar, by_name}
@@ -210,10 +209,10 @@ module _ (x : Context) (i : ℕ) where
     by_from m set ps (empty w) h = with_from set [] [] (list_for [] ps) (λ xs g. empty_sources set xs) (list_from [] ps h)
     by_from (macro n fs t) set ps (defined k) h = with_from set fs t (list_for fs ps) (defined_sources k set) (list_from fs ps h)
 
-    at_from : (f : Found) (ms : List Macro) (set : List ℕ) (ps : List Pending) → AllKnown x ms → Each R ps → GotFrom (replace_at f ms set ps)
+    at_from : (f : Result ℕ ℕ) (ms : List Macro) (set : List ℕ) (ps : List Pending) → AllKnown x ms → Each R ps → GotFrom (replace_at f ms set ps)
     unfolding GotFrom
-    at_from (Missing j) ms set ps k h = tt
-    at_from (At j) ms set ps k h =
+    at_from (Err j) ms set ps k h = tt
+    at_from (Ok j) ms set ps k h =
         by_test GotFrom (elem j set) (λ e. tt) (λ e. by_from (macro_at ms j) (insert_asc j set) ps (known_at x ms j k) h)
 
     pub replace_from : (ms : List Macro) (w set : List ℕ) (ps : List Pending) → AllKnown x ms → Each R ps → GotFrom (replace ms w set ps)

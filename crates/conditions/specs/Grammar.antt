@@ -1,21 +1,19 @@
 -- Conditions (02, P1): "a parenthesised condition over names, with `!`, `&&`, `||`, `->`, `<->` and parentheses".
 -- What is read from a place on: its value and the place behind it, or a refusal and its place.
 -- Assumes nothing.
-use Rattle.std.specs.Prelude.{ℕ, zero, suc, ◌+◌, Bool, true, false, cond, not, ◌&&◌, ◌||◌, List, eqb, length, drop}
+use Rattle.std.specs.Prelude.{ℕ, zero, suc, ◌+◌, Bool, true, false, cond, not, ◌&&◌, ◌||◌, List, eqb, length, drop, Result, Ok, Err}
 use Rattle.text.specs.Bytes.{bytes, begins}
 use Rattle.lex.specs.Tokens.{in_file, Name, Escaped, is, name_of, token_at}
 use Rattle.lex.specs.declared.Token.{Token}
 use Rattle.directive.specs.Words.{word_start}
 use Rattle.definition.specs.Definitions.{Macro}
 use Rattle.store.specs.Stores.{find}
-use Rattle.store.specs.declared.Found.{Found}
-use Rattle.store.specs.declared.Found.TheVariants.{At, Missing}
 use Rattle.conditions.specs.declared.Condition.{Condition}
 use Rattle.conditions.specs.declared.Condition.TheVariants.{Truth, Refused}
 
-abbrev pub is_at : Found → Bool
-is_at (At i) = true
-is_at (Missing i) = false
+abbrev pub is_at : Result ℕ ℕ → Bool
+is_at (Ok i) = true
+is_at (Err i) = false
 
 -- "a name being 1 if defined"; a directive's name never is
 abbrev pub is_defined : List Macro → List ℕ → Bool

@@ -11,7 +11,7 @@ ghost use Rattle.conditions.specs.Reading.{differs, Reads};
 
 use directive::word_start;
 use lex::{ESCAPED, NAME, Token, in_file, token_at};
-use store::{Found, find};
+use store::find;
 use text::{part_of, peek};
 
 // A condition or a part of it: its value, and where it ends; or refused, with the place.
@@ -27,8 +27,8 @@ fn is_defined(bytes: &[u8], records: &[[u32; 4]], macros: usize, w: &[u8]) -> bo
 {
     let f = find(bytes, records, macros, w);
     match f {
-        Found::At(_) => true,
-        Found::Missing(_) => false,
+        Ok(_) => true,
+        Err(_) => false,
     }
 }
 

@@ -12,8 +12,7 @@ use Rattle.packed.specs.Records.{blank_record, RecordIs}
 use Rattle.packed.specs.declared.Record.{Record}
 use Rattle.store.specs.Stores.{macro_at, macro_text, find}
 use Rattle.store.specs.Buffers.{Holds}
-use Rattle.store.specs.declared.Found.{Found}
-use Rattle.store.specs.declared.Found.TheVariants as found
+use Rattle.std.proofs.Common.{Result, Ok, Err}
 use Rattle.store.proofs.Entries.{start, Entry, Told, entry, told, part_sized}
 use Rattle.store.proofs.Places.{found_below}
 use Rattle.genuine.proofs.Lying.{Lies, lies_front, lies_back, lies_byte, lies_part}
@@ -58,15 +57,15 @@ macro_in {ms} {b} {r} {n} {q} h small i l k =
 
 -- ---- what a usage names, by what the search answered
 
-module _ (w : List ℕ) {ms : List Macro} {b : List ℕ} {r : List (List ℕ)} {n : ℕ} {f : Found} (h : Holds ms b r n) (e : f ≡ find w ms) where
-  pub names_macro : (set : List ℕ) (i : ℕ) → f ≡ found.At i → elem i set ≡ false → CalledBy (called.Macro i) (find w ms) ms set n
+module _ (w : List ℕ) {ms : List Macro} {b : List ℕ} {r : List (List ℕ)} {n : ℕ} {f : Result ℕ ℕ} (h : Holds ms b r n) (e : f ≡ find w ms) where
+  pub names_macro : (set : List ℕ) (i : ℕ) → f ≡ Ok i → elem i set ≡ false → CalledBy (called.Macro i) (find w ms) ms set n
   names_macro set i a t = (sym e ∙ a, t, found_below w h e i a)
 
-  pub names_recursive : (set : List ℕ) (i : ℕ) → f ≡ found.At i → elem i set ≡ true → CalledBy (called.Refused 16) (find w ms) ms set n
-  names_recursive set i a t ps = let z : find w ms ≡ found.At i = sym e ∙ a in rw (z, t)
+  pub names_recursive : (set : List ℕ) (i : ℕ) → f ≡ Ok i → elem i set ≡ true → CalledBy (called.Refused 16) (find w ms) ms set n
+  names_recursive set i a t ps = let z : find w ms ≡ Ok i = sym e ∙ a in rw (z, t)
 
-  pub names_none : (set : List ℕ) (i : ℕ) → f ≡ found.Missing i → CalledBy (called.Refused 13) (find w ms) ms set n
-  names_none set i a ps = let z : find w ms ≡ found.Missing i = sym e ∙ a in rw z
+  pub names_none : (set : List ℕ) (i : ℕ) → f ≡ Err i → CalledBy (called.Refused 13) (find w ms) ms set n
+  names_none set i a ps = let z : find w ms ≡ Err i = sym e ∙ a in rw z
 
 -- ---- the list of a usage
 

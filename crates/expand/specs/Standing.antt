@@ -1,12 +1,10 @@
 -- Where an expansion stands, and how it ends from there.
 -- Assumes nothing.
-use Rattle.std.specs.Prelude.{ℕ, max, ◌+◌, ◌-◌, ◌*◌, ◌<◌, ◌≤◌, true, false, ◌≡◌, List, [], ◌∷◌, ◌++◌, length}
+use Rattle.std.specs.Prelude.{ℕ, max, ◌+◌, ◌-◌, ◌*◌, ◌<◌, ◌≤◌, true, false, ◌≡◌, List, [], ◌∷◌, ◌++◌, length, Result, Ok}
 use Rattle.std.proofs.lemmas.List.Edits.{sets}
 use Rattle.definition.specs.Definitions.{Macro}
 use Rattle.sets.specs.Sets.{elem}
 use Rattle.store.specs.Buffers.{Stored}
-use Rattle.store.specs.declared.Found.{Found}
-use Rattle.store.specs.declared.Found.TheVariants as found
 use Rattle.writing.specs.Written.{text_of, map_of, Room}
 use Rattle.writing.specs.Buffers.{room_of, spot_after}
 use Rattle.writing.specs.declared.Spot.{Spot}
@@ -54,8 +52,8 @@ pub record Spells (s b work text map : List ℕ) (z : Spot) : Type 0 where
   pub spot : Within text map z
 
 -- what a usage names: a macro that is not in its set, or 13 or 16
-abbrev pub CalledBy : Called → Found → List Macro → List ℕ → ℕ → Type 0
-CalledBy (called.Macro i) f ms set n = (f ≡ found.At i) × (elem i set ≡ false) × (i < n)
+abbrev pub CalledBy : Called → Result ℕ ℕ → List Macro → List ℕ → ℕ → Type 0
+CalledBy (called.Macro i) f ms set n = (f ≡ Ok i) × (elem i set ≡ false) × (i < n)
 CalledBy (called.Refused k) f ms set n = (ps : List Pending) → replace_at f ms set ps ≡ refused k 0
 
 -- the list of a usage, its arguments in ranges

@@ -22,7 +22,7 @@ use packed::{Record, read};
 use pending::{Pend, Pushed, name_of};
 use replace::{is_enough, larger, push_text, stack_on};
 use sets::MacroSet;
-use store::{Found, find};
+use store::find;
 use text::peek;
 
 // A macro by its number, or 13 or 16.
@@ -45,13 +45,13 @@ pub(crate) fn resolve(
 {
     let f = find(b, records, macros, w);
     match f {
-        Found::At(i) => {
+        Ok(i) => {
             if sets::member(set, i as u64) {
                 return Called::Refused(16);
             }
             Called::Macro(i)
         }
-        Found::Missing(_) => Called::Refused(13),
+        Err(_) => Called::Refused(13),
     }
 }
 

@@ -22,7 +22,7 @@ use Rattle.store.proofs.Entries.{bytes_fit}
 use Rattle.genuine.specs.Fitness.{fit_macro, all_fit}
 use Rattle.genuine.specs.Layout.{is_less, name_in, end_of, entry_fits, is_four, is_blank, all_zero, all_blank, ends_there, left_from, left_in}
 use Rattle.genuine.specs.Leaving.{LeftBy}
-use Rattle.genuine.specs.declared.Checked.TheVariants.{Left, Foreign}
+use Rattle.std.proofs.Common.{Some, None}
 use Rattle.genuine.proofs.Lying.{Lies, lies_none, lies_front, lies_back, lies_both}
 use Rattle.genuine.proofs.Blanks.{zeros, all-zero, blanks, all-blank, left_none, Ended, ended}
 use Rattle.genuine.proofs.Rows.{less, named, below_none, not_blank, row_end, row_name, row_fits, Row, row_read}
@@ -53,12 +53,12 @@ row_taken n b a w m vs small l h o f =
     rw (z, q, e, row_end a m, row_name b a m h)
 
 complete : (ms : List Macro) (n : ℕ) (b : List ℕ) (a : ℕ) (w : List ℕ) (r : List (List ℕ)) → length b ≤ 65536 → Behind n b a w r ms
-    → left_from n b a w r ≡ Left (n + length ms)
+    → left_from n b a w r ≡ Some (n + length ms)
 unfolding encode rows_from all_fit
 complete [] n b a w r small h =
     ap (left_from n b a w) h.rows
     ∙ left_none n b a w h.others h.blank (rw add-zero at h.zero_on)
-    ∙ ap Left (sym (add-zero n))
+    ∙ ap Some (sym (add-zero n))
 complete (m ∷ ms) n b a w r small h =
     let vs : List (List ℕ) = rows_from (a + length (form_of m)) ms ++ h.others in
     let l : length (form_of m ++ encode ms) ≡ length (form_of m) + length (encode ms) = length-append (form_of m) (encode ms) in
@@ -78,7 +78,7 @@ complete (m ∷ ms) n b a w r small h =
     ap (left_from n b a w) h.rows
     ∙ row_taken n b a w m vs small (omega (arith, h.few)) (lies_front (form_of m) (encode ms) h.lie) h.below (and_left (fit_macro m) (all_fit ms) h.fit)
     ∙ complete ms (suc n) b (a + length (form_of m)) (macro_name m) vs small g
-    ∙ ap Left (omega arith)
+    ∙ ap Some (omega arith)
 
 -- some macros stand there, k with those before
 record Found (n : ℕ) (b : List ℕ) (a : ℕ) (w : List ℕ) (r : List (List ℕ)) (k : ℕ) : Type 0 where
@@ -130,8 +130,8 @@ found_more n b a w m vs k h o f g =
 
 -- what a record that the test accepts tells, where it is so for the records behind it
 found_row : (n : ℕ) (b : List ℕ) (a : ℕ) (w v : List ℕ) (vs : List (List ℕ)) (k : ℕ) → ((i : ℕ) → get_or b i 0 < 256) → length b ≤ 65536
-    → ((j : ℕ) (u : List ℕ) → j ≤ length b → n < 256 → left_from (suc n) b j u vs ≡ Left k → Found (suc n) b j u vs k)
-    → (ltb n 256 && (is_four v && entry_fits b a w (record_of v))) ≡ true → left_from (suc n) b (end_of (record_of v)) (name_in b (record_of v)) vs ≡ Left k
+    → ((j : ℕ) (u : List ℕ) → j ≤ length b → n < 256 → left_from (suc n) b j u vs ≡ Some k → Found (suc n) b j u vs k)
+    → (ltb n 256 && (is_four v && entry_fits b a w (record_of v))) ≡ true → left_from (suc n) b (end_of (record_of v)) (name_in b (record_of v)) vs ≡ Some k
     → Found n b a w (v ∷ vs) k
 found_row n b a w v vs k s small later t q =
     let l : n < 256 = ltb-true n 256 (search and_left) in
@@ -145,7 +145,7 @@ found_row n b a w v vs k s small later t q =
     let o : order_of w (macro_name m) ≡ Less = less (order_of w (macro_name m)) (and_left (is_less (order_of w (macro_name m))) (fit_macro m) z) in
     let p : end_of (record_of v) ≡ j = ap (λ (u : List ℕ). end_of (record_of u)) x.row ∙ row_end a m in
     let y : name_in b (record_of v) ≡ macro_name m = ap (λ (u : List ℕ). name_in b (record_of u)) x.row ∙ row_name b a m x.lies in
-    let i : left_from (suc n) b j (macro_name m) vs ≡ Left k =
+    let i : left_from (suc n) b j (macro_name m) vs ≡ Some k =
     ap (λ (c : ℕ). left_from (suc n) b c (macro_name m) vs) (sym p)
     ∙ ap (λ (u : List ℕ). left_from (suc n) b (end_of (record_of v)) u vs) (sym y)
     ∙ q in
@@ -154,15 +154,15 @@ found_row n b a w v vs k s small later t q =
     (found_more n b a w m vs k x.lies o (and_right (is_less (order_of w (macro_name m))) (fit_macro m) z) g)
 
 sound : (r : List (List ℕ)) (n : ℕ) (b : List ℕ) (a : ℕ) (w : List ℕ) (k : ℕ) → ((i : ℕ) → get_or b i 0 < 256) → length b ≤ 65536 → a ≤ length b → n ≤ 256
-    → left_from n b a w r ≡ Left k → Found n b a w r k
+    → left_from n b a w r ≡ Some k → Found n b a w r k
 unfolding left_from
 sound [] n b a w k s small h l e = found_none n b a w [] k h l (ended n b a [] k e)
 sound (v ∷ vs) n b a w k s small h l e =
     go (λ j u i m q. sound vs (suc n) b j u k s small i m q) (is_four v && is_blank (record_of v)) (ltb n 256 && (is_four v && entry_fits b a w (record_of v))) refl e
   where
-    go : ((j : ℕ) (u : List ℕ) → j ≤ length b → n < 256 → left_from (suc n) b j u vs ≡ Left k → Found (suc n) b j u vs k)
+    go : ((j : ℕ) (u : List ℕ) → j ≤ length b → n < 256 → left_from (suc n) b j u vs ≡ Some k → Found (suc n) b j u vs k)
         → (t u : Bool) → (ltb n 256 && (is_four v && entry_fits b a w (record_of v))) ≡ u
-        → cond t (ends_there n b a (v ∷ vs)) (cond u (left_from (suc n) b (end_of (record_of v)) (name_in b (record_of v)) vs) Foreign) ≡ Left k → Found n b a w (v ∷ vs) k
+        → cond t (ends_there n b a (v ∷ vs)) (cond u (left_from (suc n) b (end_of (record_of v)) (name_in b (record_of v)) vs) None) ≡ Some k → Found n b a w (v ∷ vs) k
     go later true u p q = found_none n b a w (v ∷ vs) k h l (ended n b a (v ∷ vs) k q)
     go later false true p q = found_row n b a w v vs k s small later p q
     go later false false p q = let z : ◌≡◌ {A = ℕ} 0 1 = cc in absurd (omega arith)
@@ -180,7 +180,7 @@ unfolding all_fit
 below_first [] h = tt
 below_first (m ∷ ms) h = below_none (macro_name m) (named m (and_left (fit_macro m) (all_fit ms) h))
 
-pub left_complete : (ms : List Macro) (b : List ℕ) (r : List (List ℕ)) → LeftBy ms b r → left_in b r ≡ Left (length ms)
+pub left_complete : (ms : List Macro) (b : List ℕ) (r : List (List ℕ)) → LeftBy ms b r → left_in b r ≡ Some (length ms)
 unfolding left_in
 left_complete ms b r h =
     let n : ℕ = length (encode ms) in
@@ -203,7 +203,7 @@ left_complete ms b r h =
       order = h.order;
       fit = h.fit;
     } in
-    rw q (complete ms 0 b 0 [] r h.small g ∙ ap Left (zero-add (length ms)))
+    rw q (complete ms 0 b 0 [] r h.small g ∙ ap Some (zero-add (length ms)))
 
 -- what the test accepts
 pub record Accepted (b : List ℕ) (r : List (List ℕ)) (n : ℕ) : Type 0 where
@@ -237,11 +237,11 @@ accepted b r k small f =
       count = omega (arith, f.count);
     }
 
-pub left_sound : (b : List ℕ) (r : List (List ℕ)) (n : ℕ) → ((i : ℕ) → get_or b i 0 < 256) → left_in b r ≡ Left n → Accepted b r n
+pub left_sound : (b : List ℕ) (r : List (List ℕ)) (n : ℕ) → ((i : ℕ) → get_or b i 0 < 256) → left_in b r ≡ Some n → Accepted b r n
 unfolding left_in
 left_sound b r n s e = go (leb (length b) 65536) refl e
   where
-    go : (t : Bool) → leb (length b) 65536 ≡ t → cond t (left_from 0 b 0 [] r) Foreign ≡ Left n → Accepted b r n
+    go : (t : Bool) → leb (length b) 65536 ≡ t → cond t (left_from 0 b 0 [] r) None ≡ Some n → Accepted b r n
     go true p q =
         let small : length b ≤ 65536 = leb-true (length b) 65536 p in
         accepted b r n small (sound r 0 b 0 [] n s small (omega arith) (omega arith) q)

@@ -11,7 +11,7 @@ use lib.ListN.{length, drop, get_or, replicate}
 use Rattle.lex.proofs.Tests.{and_left, and_right}
 use Rattle.packed.specs.Records.{blank_record, record_of}
 use Rattle.genuine.specs.Layout.{all_zero, is_four, is_blank, all_blank, ends_there, left_from}
-use Rattle.genuine.specs.declared.Checked.TheVariants.{Left, Foreign}
+use Rattle.std.proofs.Common.{Some, None}
 
 pub zeros : (k : ℕ) → all_zero (replicate k 0) ≡ true
 unfolding all_zero
@@ -58,7 +58,7 @@ all-blank (v ∷ l) h =
     cc
 
 -- where nothing stands any more
-pub left_none : (n : ℕ) (b : List ℕ) (a : ℕ) (w : List ℕ) (vs : List (List ℕ)) → all_blank vs ≡ true → all_zero (drop a b) ≡ true → left_from n b a w vs ≡ Left n
+pub left_none : (n : ℕ) (b : List ℕ) (a : ℕ) (w : List ℕ) (vs : List (List ℕ)) → all_blank vs ≡ true → all_zero (drop a b) ≡ true → left_from n b a w vs ≡ Some n
 unfolding left_from ends_there all_blank
 left_none n b a w [] h z = rw z
 left_none n b a w (v ∷ vs) h z =
@@ -71,11 +71,11 @@ pub record Ended (n : ℕ) (b : List ℕ) (a : ℕ) (vs : List (List ℕ)) (k : 
   pub zero_on : all_zero (drop a b) ≡ true
   pub count : k ≡ n
 
-pub ended : (n : ℕ) (b : List ℕ) (a : ℕ) (vs : List (List ℕ)) (k : ℕ) → ends_there n b a vs ≡ Left k → Ended n b a vs k
+pub ended : (n : ℕ) (b : List ℕ) (a : ℕ) (vs : List (List ℕ)) (k : ℕ) → ends_there n b a vs ≡ Some k → Ended n b a vs k
 unfolding ends_there
 ended n b a vs k = go (all_blank vs) (all_zero (drop a b)) refl refl
   where
-    go : (t u : Bool) → all_blank vs ≡ t → all_zero (drop a b) ≡ u → cond (t && u) (Left n) Foreign ≡ Left k → Ended n b a vs k
+    go : (t u : Bool) → all_blank vs ≡ t → all_zero (drop a b) ≡ u → cond (t && u) (Some n) None ≡ Some k → Ended n b a vs k
     go true true p q h = record { blank = p; zero_on = q; count = cc }
     go true false p q h = record { blank = p; zero_on = cc; count = cc }
     go false u p q h = record { blank = cc; zero_on = cc; count = cc }

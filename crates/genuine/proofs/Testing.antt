@@ -1,15 +1,17 @@
 -- Tests as the code meets them: one after another, and one of each element of a list.
 -- Assumes nothing.
-use Prim.Native.Nat.{ℕ, ◌+◌, ◌≤◌, ◌<◌}
-use mathlib.Core.Bool.{Bool, true, false, not, ◌&&◌, ◌||◌}
+use Prim.Native.Nat.{ℕ, ◌+◌, ◌-◌, ◌≤◌, ◌<◌}
+use mathlib.Core.Bool.{Bool, true, false, not, ◌&&◌}
 use mathlib.Core.List.{List, [], ◌∷◌}
-use mathlib.Core.Path.{◌≡◌, refl, sym, ◌∙◌}
+use mathlib.Core.Path.{◌≡◌, refl, sym, ap, ◌∙◌}
 use native.Mathlib.Numerals.{add-one}
 use native.Mathlib.Omega.{arith}
-use lib.Dec.{eqb, leb, ltb}
-use lib.ListN.{length, drop, get_or, drop_of_length-le}
-use lib.Seq.{drop-cons}
-use borrow.Author.Tests.{not-true, not-false, ltb-true, ltb-false, le-leb, lt-leb}
+use lib.Dec.{eqb, leb}
+use lib.ListN.{length, drop, get_or, drop_of_length-le, length-drop}
+use lib.Seq.{drop-cons, take_all}
+use Rattle.std.specs.List.{list_all}
+use borrow.Author.Tests.{not-true, not-false}
+use Rattle.text.specs.Bytes.{part}
 use Rattle.lex.specs.Classes.{is_run}
 use Rattle.packed.specs.Records.{record_of}
 use Rattle.genuine.specs.Fitness.{all_solid, all_run}
@@ -22,10 +24,18 @@ no {b} e h = sym e ∙ not-true b h
 pub yes : {b x : Bool} → b ≡ x → not b ≡ false → x ≡ true
 yes {b} e h = sym e ∙ not-false b h
 
+-- the part of a list from i to its end
+pub part_on : (s : List ℕ) (i : ℕ) {r t : List ℕ} → r ≡ t → t ≡ part s i (length s) → r ≡ drop i s
+part_on s i e p = e ∙ p ∙ take_all (length s - i) (drop i s) (omega (arith, length-drop i s))
+
 -- f: whether p holds of each element
 pub record Each {A : Type 0} (p : A → Bool) (f : List A → Bool) : Type 0 where
   pub none : f [] ≡ true
   pub some : (x : A) (xs : List A) → f (x ∷ xs) ≡ (p x && f xs)
+
+pub each_list : {A : Type 0} {p : A → Bool} {f : List A → Bool} → Each p f → (w : List A) → list_all p w ≡ f w
+each_list e [] = sym e.none
+each_list {p = p} e (x ∷ w) = ap (λ (b : Bool). p x && b) (each_list e w) ∙ sym (e.some x w)
 
 module _ {A : Type 0} {p : A → Bool} {f : List A → Bool} (e : Each p f) (w : List A) (i : ℕ) where
   pub each_end : length w ≤ i → true ≡ f (drop i w)
@@ -56,19 +66,3 @@ each_zero = record { none = refl; some = λ x xs. refl }
 pub each_blank : Each (λ (v : List ℕ). is_four v && is_blank (record_of v)) all_blank
 unfolding all_blank
 each_blank = record { none = refl; some = λ x xs. refl }
-
--- a byte that is no part of an escaped name, or is
-module _ (x : ℕ) where
-  pub not_solid : (ltb x 33 || ltb 126 x) ≡ true → is_solid x ≡ false
-  not_solid h = go (ltb x 33) refl h
-    where
-      go : (t : Bool) → ltb x 33 ≡ t → (t || ltb 126 x) ≡ true → is_solid x ≡ false
-      go true q k = rw (lt-leb 33 x (ltb-true x 33 q))
-      go false q k = rw (le-leb 33 x (ltb-false x 33 q), lt-leb x 126 (ltb-true 126 x k))
-
-  pub is-solid : (ltb x 33 || ltb 126 x) ≡ false → is_solid x ≡ true
-  is-solid h = go (ltb x 33) refl h
-    where
-      go : (t : Bool) → ltb x 33 ≡ t → (t || ltb 126 x) ≡ false → is_solid x ≡ true
-      go true q k = absurd (let z : ◌≡◌ {A = ℕ} 0 1 = cc in omega arith)
-      go false q k = rw (le-leb 33 x (ltb-false x 33 q), le-leb x 126 (ltb-false 126 x k))

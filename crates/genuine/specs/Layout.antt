@@ -1,7 +1,7 @@
 -- Which records and bytes definitions leave: forms packed from the first byte on, in strict byte order of their names, each one
 -- that some definition stores, and all zero past the last.
 -- Assumes nothing.
-use Rattle.std.specs.Prelude.{ℕ, zero, suc, ◌+◌, Bool, true, false, cond, not, ◌&&◌, List, [], ◌∷◌, eqb, leb, ltb, length, get_or, drop}
+use Rattle.std.specs.Prelude.{ℕ, zero, suc, ◌+◌, Bool, true, false, cond, not, ◌&&◌, List, [], ◌∷◌, eqb, leb, ltb, length, get_or, drop, Option, Some, None}
 use Rattle.text.specs.Bytes.{same, part, two_at}
 use Rattle.text.specs.Order.{order_of}
 use Rattle.std.specs.declared.cmp.Ordering.{Ordering}
@@ -9,8 +9,6 @@ use Rattle.std.specs.declared.cmp.Ordering.TheVariants.{Less, Equal, Greater}
 use Rattle.packed.specs.Records.{record_of}
 use Rattle.packed.specs.declared.Record.{Record}
 use Rattle.genuine.specs.Fitness.{fit_name, fit_formal, fit_stored}
-use Rattle.genuine.specs.declared.Checked.{Checked}
-use Rattle.genuine.specs.declared.Checked.TheVariants as checked
 
 -- "per formal two bytes of length (low first), name, mark .., two bytes of length, default": of the formal at i, where its name
 -- ends, which is where its mark stands; its name; where its default starts and ends
@@ -92,17 +90,17 @@ all_blank [] = true
 all_blank (v ∷ vs) = (is_four v && is_blank (record_of v)) && all_blank vs
 
 -- n macros, if nothing stands behind the last, whose form ends at a
-unfoldable pub ends_there : ℕ → List ℕ → ℕ → List (List ℕ) → Checked
-ends_there n b a vs = cond (all_blank vs && all_zero (drop a b)) (checked.Left n) checked.Foreign
+unfoldable pub ends_there : ℕ → List ℕ → ℕ → List (List ℕ) → Option ℕ
+ends_there n b a vs = cond (all_blank vs && all_zero (drop a b)) (Some n) None
 
 -- the number of macros, where n stand before and the form of the last of these, of the name w, ends at a
-unfoldable pub left_from : ℕ → List ℕ → ℕ → List ℕ → List (List ℕ) → Checked
+unfoldable pub left_from : ℕ → List ℕ → ℕ → List ℕ → List (List ℕ) → Option ℕ
 left_from n b a w [] = ends_there n b a []
 left_from n b a w (v ∷ vs) =
     let r = left_from (suc n) b (end_of (record_of v)) (name_in b (record_of v)) vs in
     cond (is_four v && is_blank (record_of v)) (ends_there n b a (v ∷ vs))
-    (cond (ltb n 256 && (is_four v && entry_fits b a w (record_of v))) r checked.Foreign)
+    (cond (ltb n 256 && (is_four v && entry_fits b a w (record_of v))) r None)
 
 -- the number of macros in a store that definitions leave, or that it is none such
-unfoldable pub left_in : List ℕ → List (List ℕ) → Checked
-left_in b rows = cond (leb (length b) 65536) (left_from 0 b 0 [] rows) checked.Foreign
+unfoldable pub left_in : List ℕ → List (List ℕ) → Option ℕ
+left_in b rows = cond (leb (length b) 65536) (left_from 0 b 0 [] rows) None

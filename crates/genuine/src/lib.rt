@@ -16,25 +16,11 @@ use packed::{Record, read};
 use std::cmp::Ordering;
 use text::{compare, part_of, peek, same, two_at};
 
-// The number of macros that a store holds, or that no definitions leave it.
-#[derive(Clone, Copy)]
-pub enum Checked {
-    Left(usize),
-    Foreign,
-}
-
 // Whether all bytes are legal and no white space.
 fn all_solid(w: &[u8]) -> bool
     ensures { result ≡ all_solid w.now }
 {
-    let mut i = 0;
-    while i < w.len() {
-        if (w[i] < 33) | (126 < w[i]) {
-            return false;
-        }
-        i += 1;
-    }
-    true
+    w.iter().all(|&b| 33 <= b && b <= 126)
 }
 
 // Whether a name has 1 to 1,024 bytes.
@@ -61,14 +47,7 @@ fn is_fit_name(w: &[u8]) -> bool
 fn all_run(w: &[u8], at: usize) -> bool
     ensures { result ≡ all_run (drop at w.now) }
 {
-    let mut i = at;
-    while i < w.len() {
-        if !is_run(36, w[i]) {
-            return false;
-        }
-        i += 1;
-    }
-    true
+    part_of(w, at, w.len()).iter().all(|&b| is_run(36, b))
 }
 
 // Whether a formal can have the name `w`.
@@ -158,13 +137,11 @@ fn named_from(b: &[u8], at: usize, count: usize, w: &[u8]) -> bool
     ensures { result ≡ named_from count b.now at w.now }
 {
     let mut i = at;
-    let mut c = count;
-    while 0 < c {
+    for _ in 0..count {
         if same(w, formal_name(b, i)) {
             return true;
         }
         i = formal_end(b, i);
-        c -= 1;
     }
     false
 }
@@ -208,10 +185,8 @@ fn formals_fit(
     ensures { result ≡ formals_fit count b.now at end }
 {
     let mut i = at;
-    let mut c = count;
-    while 0 < c {
-        c -= 1;
-        if !formal_fits(b, i, c, end, name, stack) {
+    for more in (0..count).rev() {
+        if !formal_fits(b, i, more, end, name, stack) {
             return false;
         }
         i = formal_end(b, i);
@@ -285,14 +260,7 @@ fn entry_fits(
 fn all_zero(b: &[u8], at: usize) -> bool
     ensures { result ≡ all_zero (drop at b.now) }
 {
-    let mut i = at;
-    while i < b.len() {
-        if b[i] != 0 {
-            return false;
-        }
-        i += 1;
-    }
-    true
+    part_of(b, at, b.len()).iter().all(|&x| x == 0)
 }
 
 fn is_blank(r: Record) -> bool
@@ -305,63 +273,64 @@ fn is_blank(r: Record) -> bool
 fn all_blank(records: &[[u32; 4]], at: usize) -> bool
     ensures { result ≡ all_blank (drop at records.now) }
 {
-    let mut i = at;
-    while i < records.len() {
+    for i in at..records.len() {
         if !is_blank(read(records, i)) {
             return false;
         }
-        i += 1;
     }
     true
 }
 
-// Whether nothing stands behind the last of `count` macros, whose form ends at `end`.
-fn ends_there(records: &[[u32; 4]], bytes: &[u8], count: usize, end: usize) -> Checked
+// The number `count` of macros, the form of the last of which ends at `end`; `None` if something stands behind them.
+fn ends_there(records: &[[u32; 4]], bytes: &[u8], count: usize, end: usize) -> Option<usize>
     ensures { result ≡ ends_there count bytes.now end (drop count records.now) }
 {
     if !all_blank(records, count) {
-        return Checked::Foreign;
+        return None;
     }
     if !all_zero(bytes, end) {
-        return Checked::Foreign;
+        return None;
     }
-    Checked::Left(count)
+    Some(count)
 }
 
-// Checks records and at most 65,536 bytes, with bytes for names and for brackets.
-fn check_taken(records: &[[u32; 4]], bytes: &[u8], name: &mut [u8], stack: &mut [u8]) -> Checked
+// Checks records and at most 65,536 bytes, with bytes for names and for brackets: as `check_store` answers.
+fn check_taken(
+    records: &[[u32; 4]],
+    bytes: &[u8],
+    name: &mut [u8],
+    stack: &mut [u8],
+) -> Option<usize>
     requires { (length bytes.now ≤ 65536) × (1025 ≤ length name.old) × (16384 ≤ length stack.old) }
     ensures { result ≡ left_from 0 bytes.now 0 [] records.now }
 {
-    let mut i = 0;
     let mut end = 0;
     let mut from = 0;
     let mut to = 0;
-    while i < records.len() {
+    for i in 0..records.len() {
         let r = read(records, i);
         if is_blank(r) {
             return ends_there(records, bytes, i, end);
         }
         if 256 <= i {
-            return Checked::Foreign;
+            return None;
         }
         if !entry_fits(bytes, end, from, to, r, name, stack) {
-            return Checked::Foreign;
+            return None;
         }
         from = r.start;
         to = r.start + r.name;
         end = r.text + r.size;
-        i += 1;
     }
-    ends_there(records, bytes, i, end)
+    ends_there(records, bytes, records.len(), end)
 }
 
-// The number of macros in the store that the records and bytes make, or that no definitions leave such.
-pub fn check_store(records: &[[u32; 4]], bytes: &[u8]) -> Checked
+// The number of macros in the store that the records and bytes make, or `None` if no definitions leave such.
+pub fn check_store(records: &[[u32; 4]], bytes: &[u8]) -> Option<usize>
     ensures { result ≡ left_in bytes.now records.now }
 {
     if 65536 < bytes.len() {
-        return Checked::Foreign;
+        return None;
     }
     let mut name = [0u8; 1025];
     let mut stack = [0u8; 16384];

@@ -1,16 +1,19 @@
 -- The hand-over as the code tests it: a file name, an entry, the include table from entry i on, the sizes.
 -- Assumes nothing.
 use mathlib.Core.Path.{◌≡◌, refl, sym, ap, ◌∙◌}
-use mathlib.Core.Bool.{Bool, true, false, cond, not, ◌&&◌, ◌||◌}
+use mathlib.Core.Bool.{Bool, true, false, not, ◌&&◌, ◌||◌}
 use mathlib.Core.List.{List, [], ◌∷◌}
-use Prim.Native.Nat.{ℕ, zero, suc, ◌+◌, ◌≤◌, ◌<◌}
-use native.Mathlib.Numerals.{add-one}
+use Prim.Native.Nat.{ℕ, zero, suc, ◌≤◌, ◌<◌}
 use native.Mathlib.Omega.{arith}
 use borrow.Author.Tests.{leb-true, leb-false, ltb-true, ltb-false, lt-ltb, le-ltb, lt-leb, le-leb, eq-eqb, ne_eqb, not-true, not-false}
 use lib.Dec.{leb, ltb}
-use lib.ListN.{length, drop, get_or, drop_of_length-le}
-use lib.Seq.{drop-cons}
-use Rattle.text.specs.Bytes.{same, part}
+use lib.ListN.{length, get_or}
+use Rattle.std.specs.List.{list_all, AllWithin, HoldsAt}
+use Rattle.std.specs.Option.{MatchOption, unwrap_or}
+use Rattle.std.proofs.Common.{Option}
+use Rattle.std.proofs.lemmas.Iterator.{index_from_first}
+use Rattle.std.proofs.lemmas.List.Recursion.{same_from_clauses}
+use Rattle.text.specs.Bytes.{same}
 use Rattle.macros.specs.Starting.{starts_fit}
 use Rattle.handover.specs.Entries.{name_end, body_end, entry_name, is_name_byte, name_bytes, is_file_name, is_entry, all_entries, is_named, entry_of}
 use Rattle.handover.specs.Sizes.{HandOver, Rooms, is_sound}
@@ -42,10 +45,7 @@ refused p e h = not-true p (sym e ∙ h)
 passed : {t : Bool} (p : Bool) → t ≡ not p → t ≡ false → p ≡ true
 passed p e h = not-false p (sym e ∙ h)
 
--- ---- a part, by numbers read
-
-pub part_by : (s : List ℕ) {a b x y : ℕ} → a ≡ x → b ≡ y → {w : List ℕ} → w ≡ part s a (a + b) → w ≡ part s x (x + y)
-part_by s p q e = e ∙ rw (p, q)
+-- ---- a read
 
 -- the default of a read inside a list
 pub read_any : {A : Type 0} (l : List A) (i : ℕ) (d e : A) → i < length l → get_or l i d ≡ get_or l i e
@@ -67,24 +67,9 @@ module _ (w : List ℕ) where
   unfolding is_file_name
   name_sized h = sym (ap (λ (x : Bool). x && name_bytes w) (passed (leb 1 (length w) && leb (length w) 255) sized h))
 
-  module _ (i : ℕ) where
-    pub bytes_out : length w ≤ i → name_bytes (drop i w) ≡ true
-    unfolding name_bytes
-    bytes_out h = rw (drop_of_length-le w)
-
-    module _ (l : i < length w) {b : Bool} (e : b ≡ is_name_byte (get_or w i 0)) where
-      bytes_by : (x : Bool) → b ≡ x → name_bytes (drop i w) ≡ (x && name_bytes (drop (i + 1) w))
-      unfolding name_bytes
-      bytes_by x a =
-          let f : drop i w ≡ get_or w i 0 ∷ drop (i + 1) w = rw (add-one i) (drop-cons w i 0 l) in
-          ap name_bytes f
-          ∙ ap (λ (y : Bool). y && name_bytes (drop (i + 1) w)) (sym e ∙ a)
-
-      pub bytes_none : not b ≡ true → name_bytes (drop i w) ≡ false
-      bytes_none a = bytes_by false (not-true b a)
-
-      pub bytes_more : not b ≡ false → name_bytes (drop i w) ≡ name_bytes (drop (i + 1) w)
-      bytes_more a = bytes_by true (not-false b a)
+pub bytes_all : (w : List ℕ) → list_all is_name_byte w ≡ name_bytes w
+unfolding name_bytes
+bytes_all = same_from_clauses (list_all is_name_byte) name_bytes (λ b r. is_name_byte b && r) refl (λ b w. refl) (λ b w. refl)
 
 -- ---- an entry
 
@@ -93,27 +78,27 @@ module _ (s v : List ℕ) where
   unfolding is_entry
   entry_form h = rw (lt-leb (get_or v 0 0) 1 h)
 
-  module _ (h₀ : get_or v 0 0 ≤ 1) {a b : ℕ} (p : a ≡ get_or v 1 0) (q : b ≡ get_or v 2 0) where
-    pub entry_name_out : length s < a + b → false ≡ is_entry s v
+  module _ (h₀ : get_or v 0 0 ≤ 1) where
+    pub entry_name_out : length s < name_end v → false ≡ is_entry s v
     unfolding is_entry
-    entry_name_out l = rw (le-leb (get_or v 0 0) 1 h₀, lt-leb (name_end v) (length s) (omega arith))
+    entry_name_out l = rw (le-leb (get_or v 0 0) 1 h₀, lt-leb (name_end v) (length s) l)
 
-    module _ (h₁ : a + b ≤ length s) {c d : ℕ} (t : c ≡ get_or v 3 0) (u : d ≡ get_or v 4 0) where
-      pub entry_body_out : length s < c + d → false ≡ is_entry s v
+    module _ (h₁ : name_end v ≤ length s) where
+      pub entry_body_out : length s < body_end v → false ≡ is_entry s v
       unfolding is_entry
-      entry_body_out l = rw (le-leb (get_or v 0 0) 1 h₀, le-leb (name_end v) (length s) (omega arith), lt-leb (body_end v) (length s) (omega arith))
+      entry_body_out l = rw (le-leb (get_or v 0 0) 1 h₀, le-leb (name_end v) (length s) h₁, lt-leb (body_end v) (length s) l)
 
-      module _ (h₂ : c + d ≤ length s) where
+      module _ (h₂ : body_end v ≤ length s) where
         pub entry_body_long : 65535 < get_or v 4 0 → false ≡ is_entry s v
         unfolding is_entry
         entry_body_long l =
-            rw (le-leb (get_or v 0 0) 1 h₀, le-leb (name_end v) (length s) (omega arith), le-leb (body_end v) (length s) (omega arith), lt-leb (get_or v 4 0) 65535 l)
+            rw (le-leb (get_or v 0 0) 1 h₀, le-leb (name_end v) (length s) h₁, le-leb (body_end v) (length s) h₂, lt-leb (get_or v 4 0) 65535 l)
 
         pub entry_by_name : get_or v 4 0 ≤ 65535 → {w : List ℕ} → w ≡ entry_name s v → {x : Bool} → x ≡ is_file_name w → x ≡ is_entry s v
         unfolding is_entry
         entry_by_name l e f =
             f ∙ ap is_file_name e
-            ∙ rw (le-leb (get_or v 0 0) 1 h₀, le-leb (name_end v) (length s) (omega arith), le-leb (body_end v) (length s) (omega arith), le-leb (get_or v 4 0) 65535 l)
+            ∙ rw (le-leb (get_or v 0 0) 1 h₀, le-leb (name_end v) (length s) h₁, le-leb (body_end v) (length s) h₂, le-leb (get_or v 4 0) 65535 l)
 
 -- ---- whether an entry has a form and name
 
@@ -124,52 +109,24 @@ module _ (s : List ℕ) (form : ℕ) (w v : List ℕ) where
   pub same_form : get_or v 0 0 ≡ form → {x : List ℕ} → x ≡ entry_name s v → {b : Bool} → b ≡ same w x → b ≡ is_named s form w v
   same_form z p q = q ∙ ap (same w) p ∙ rw (eq-eqb (get_or v 0 0) form z)
 
--- ---- the entries from i on
+-- ---- the entries
 
-module _ (s : List ℕ) (vs : List (List ℕ)) (i : ℕ) where
-  pub entries_out : length vs ≤ i → all_entries s (drop i vs) ≡ true
-  unfolding all_entries
-  entries_out h = rw (drop_of_length-le vs)
+pub entries_all : (s : List ℕ) (vs : List (List ℕ)) → list_all (is_entry s) vs ≡ all_entries s vs
+unfolding all_entries
+entries_all s = same_from_clauses (list_all (is_entry s)) (all_entries s) (λ v r. is_entry s v && r) refl (λ v vs. refl) (λ v vs. refl)
 
-  module _ (d : List ℕ) (l : i < length vs) where
-    first_entry : drop i vs ≡ get_or vs i d ∷ drop (i + 1) vs
-    first_entry = rw (add-one i) (drop-cons vs i d l)
+-- the first entry of a form and name, if there is one
+module _ (s : List ℕ) (form : ℕ) (w : List ℕ) where
+  abbrev pub Named : List ℕ → Type 0
+  Named v = is_named s form w v ≡ true
 
-    module _ {b : Bool} (e : b ≡ is_entry s (get_or vs i d)) where
-      entries_by : (x : Bool) → b ≡ x → all_entries s (drop i vs) ≡ (x && all_entries s (drop (i + 1) vs))
-      unfolding all_entries
-      entries_by x a = ap (all_entries s) first_entry ∙ ap (λ (y : Bool). y && all_entries s (drop (i + 1) vs)) (sym e ∙ a)
+  abbrev pub Unnamed : List ℕ → Type 0
+  Unnamed v = is_named s form w v ≡ false
 
-      pub entries_none : not b ≡ true → all_entries s (drop i vs) ≡ false
-      entries_none a = entries_by false (not-true b a)
-
-      pub entries_more : not b ≡ false → all_entries s (drop i vs) ≡ all_entries s (drop (i + 1) vs)
-      entries_more a = entries_by true (not-false b a)
-
--- n: the number of the entry of that form and name, none of those before i
-module _ (s : List ℕ) (form : ℕ) (w : List ℕ) (vs : List (List ℕ)) (i : ℕ) {n : ℕ} (v : i + entry_of s form w (drop i vs) ≡ n) where
-  pub named_out : length vs ≤ i → i ≡ n
+  pub entry_first : (vs : List (List ℕ)) (r : Option ℕ)
+      → MatchOption r (AllWithin Unnamed vs 0 (length vs)) (λ i. (i < length vs) × HoldsAt Named vs i × AllWithin Unnamed vs 0 i) → entry_of s form w vs ≡ unwrap_or r (length vs)
   unfolding entry_of
-  named_out h =
-      let z : entry_of s form w (drop i vs) ≡ 0 = rw (drop_of_length-le vs) in
-      omega arith
-
-  module _ (d : List ℕ) (l : i < length vs) {b : Bool} (e : b ≡ is_named s form w (get_or vs i d)) where
-    named-by : (x : Bool) → b ≡ x → entry_of s form w (drop i vs) ≡ cond x 0 (suc (entry_of s form w (drop (i + 1) vs)))
-    unfolding entry_of
-    named-by x a =
-        ap (entry_of s form w) (first_entry s vs i d l)
-        ∙ ap (λ (y : Bool). cond y 0 (suc (entry_of s form w (drop (i + 1) vs)))) (sym e ∙ a)
-
-    pub named_here : b ≡ true → i ≡ n
-    named_here a =
-        let z : entry_of s form w (drop i vs) ≡ 0 = named-by true a in
-        omega arith
-
-    pub named_more : b ≡ false → (i + 1) + entry_of s form w (drop (i + 1) vs) ≡ n
-    named_more a =
-        let z : entry_of s form w (drop i vs) ≡ suc (entry_of s form w (drop (i + 1) vs)) = named-by false a in
-        omega arith
+  entry_first = index_from_first (entry_of s form w) Named Unnamed refl (λ v vs e. rw e) (λ v vs e. rw e (omega arith))
 
 -- ---- refusal 1
 

@@ -1,31 +1,31 @@
 // What is handed over to flatten (document 01, "Hand-over"): the include table over the byte store, and refusal 1.
 #![tactic(auto)]
 
-ghost use Rattle.std.specs.Prelude.{◌≡◌, length, get_or, ℕ, ◌<◌};
+ghost use Rattle.std.specs.Prelude.{◌≡◌, length, get_or, ℕ, ◌+◌, ◌<◌};
+ghost use Rattle.text.specs.Bytes.{part};
 ghost use Rattle.handover.specs.Entries.{blank_entry, entry_name, entry_body, is_name_byte, body_of, name_of, is_file_name, is_entry, all_entries, is_named, entry_of};
 ghost use Rattle.handover.specs.Sizes.{is_sound};
 
 use macros::starts_fit;
 use text::{part_of, same};
 
-fn wide(x: u32) -> usize
-    ensures { (result ≡ x) × (result < 4294967296) }
+// The part of `s` that a start and a length name.
+fn part_in(s: &[u8], start: u32, size: u32) -> &[u8]
+    ensures { result.now ≡ part s.now start (start + size) }
 {
-    x as usize
+    part_of(s, start as usize, start as usize + size as usize)
 }
 
 fn name_in(s: &[u8], v: [u32; 5]) -> &[u8]
     ensures { result.now ≡ entry_name s.now v }
 {
-    let a = wide(v[1]);
-    part_of(s, a, a + wide(v[2]))
+    part_in(s, v[1], v[2])
 }
 
 fn body_in(s: &[u8], v: [u32; 5]) -> &[u8]
     ensures { result.now ≡ entry_body s.now v }
 {
-    let a = wide(v[3]);
-    part_of(s, a, a + wide(v[4]))
+    part_in(s, v[3], v[4])
 }
 
 // The name of entry `i`, as it stands in the byte store.
@@ -56,14 +56,7 @@ fn is_file_name(w: &[u8]) -> bool
     if (w.len() < 1) | (255 < w.len()) {
         return false;
     }
-    let mut i = 0;
-    while i < w.len() {
-        if !is_name_byte(w[i]) {
-            return false;
-        }
-        i += 1;
-    }
-    true
+    w.iter().all(|&b| is_name_byte(b))
 }
 
 fn is_entry(s: &[u8], v: [u32; 5]) -> bool
@@ -72,10 +65,10 @@ fn is_entry(s: &[u8], v: [u32; 5]) -> bool
     if 1 < v[0] {
         return false;
     }
-    if s.len() < wide(v[1]) + wide(v[2]) {
+    if s.len() < v[1] as usize + v[2] as usize {
         return false;
     }
-    if s.len() < wide(v[3]) + wide(v[4]) {
+    if s.len() < v[3] as usize + v[4] as usize {
         return false;
     }
     if 65535 < v[4] {
@@ -87,14 +80,7 @@ fn is_entry(s: &[u8], v: [u32; 5]) -> bool
 fn all_entries(s: &[u8], table: &[[u32; 5]]) -> bool
     ensures { result ≡ all_entries s.now table.now }
 {
-    let mut i = 0;
-    while i < table.len() {
-        if !is_entry(s, table[i]) {
-            return false;
-        }
-        i += 1;
-    }
-    true
+    table.iter().all(|&v| is_entry(s, v))
 }
 
 fn is_named(s: &[u8], v: [u32; 5], form: u32, w: &[u8]) -> bool
@@ -110,14 +96,10 @@ fn is_named(s: &[u8], v: [u32; 5], form: u32, w: &[u8]) -> bool
 pub fn entry_of(s: &[u8], table: &[[u32; 5]], form: u32, w: &[u8]) -> usize
     ensures { result ≡ entry_of s.now form w.now table.now }
 {
-    let mut i = 0;
-    while i < table.len() {
-        if is_named(s, table[i], form, w) {
-            return i;
-        }
-        i += 1;
-    }
-    i
+    table
+        .iter()
+        .position(|&v| is_named(s, v, form, w))
+        .unwrap_or(table.len())
 }
 
 // Whether nothing of the hand-over gives refusal 1, by the lengths of the lent text, macro records and macro bytes.

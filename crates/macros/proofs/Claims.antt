@@ -13,7 +13,7 @@ use Rattle.store.specs.Buffers.{Holds}
 use Rattle.store.proofs.Entries.{bytes_fit, rows_fit}
 use Rattle.genuine.specs.Layout.{left_in}
 use Rattle.genuine.specs.Leaving.{LeftBy}
-use Rattle.genuine.specs.declared.Checked.TheVariants.{Left}
+use Rattle.std.proofs.Common.{Some}
 use Rattle.genuine.proofs.Accepting.{Accepted, left_complete, left_sound}
 use Rattle.macros.specs.Starting.{all_starts, started_from, started, starts_fit}
 use Rattle.macros.specs.History.{Deed, after_all, spellings}
@@ -27,7 +27,7 @@ none_fit records bytes s = rw (le-leb 0 records (omega arith), le-leb 0 bytes (o
 
 -- every store that the operations leave, with start macros or none, is accepted
 pub operations_accepted : (b : List ℕ) (r : List (List ℕ)) (n : ℕ) (s : List ℕ) (vs : List (List ℕ)) (ds : List Deed) → length b ≤ 65536
-    → starts_fit (length r) (length b) s vs ≡ true → Holds (after_all (length r) (length b) ds (started s vs)) b r n → left_in b r ≡ Left n
+    → starts_fit (length r) (length b) s vs ≡ true → Holds (after_all (length r) (length b) ds (started s vs)) b r n → left_in b r ≡ Some n
 operations_accepted b r n s vs ds small f h =
     let ms : List Macro = after_all (length r) (length b) ds (started s vs) in
     let k : Sound ms = all_kept (length r) (length b) ds (started s vs) (started_sound (length r) (length b) s vs f) in
@@ -39,7 +39,7 @@ operations_accepted b r n s vs ds small f h =
       order = k.order;
       fit = k.fit;
     } in
-    left_complete ms b r l ∙ ap Left (sym h.count)
+    left_complete ms b r l ∙ ap Some (sym h.count)
 
 -- definitions that spell some macros out leave such a store
 pub record SpelledOut (b : List ℕ) (r : List (List ℕ)) (n : ℕ) : Type 0 where
@@ -47,7 +47,7 @@ pub record SpelledOut (b : List ℕ) (r : List (List ℕ)) (n : ℕ) : Type 0 wh
   pub left : Holds (after_all (length r) (length b) (spellings macros) []) b r n
 
 -- every store that is accepted is left by some definitions
-pub accepted_left : (b : List ℕ) (r : List (List ℕ)) (n : ℕ) → ((i : ℕ) → get_or b i 0 < 256) → left_in b r ≡ Left n → SpelledOut b r n
+pub accepted_left : (b : List ℕ) (r : List (List ℕ)) (n : ℕ) → ((i : ℕ) → get_or b i 0 < 256) → left_in b r ≡ Some n → SpelledOut b r n
 accepted_left b r n bytes e =
     let a : Accepted b r n = left_sound b r n bytes e in
     let ms : List Macro = a.macros in

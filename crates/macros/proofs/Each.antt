@@ -9,8 +9,7 @@ use lib.ListN.{length, take, drop, get_or}
 use Rattle.lex.proofs.Tests.{and_left, and_right}
 use Rattle.definition.specs.Definitions.{Macro}
 use Rattle.store.specs.Stores.{macro_name, find, define_by, define, undefine_by, undefine}
-use Rattle.store.specs.declared.Found.{Found}
-use Rattle.store.specs.declared.Found.TheVariants.{At, Missing}
+use Rattle.std.proofs.Common.{Result, Ok, Err}
 use Rattle.genuine.specs.Fitness.{fit_macro, all_fit}
 use Rattle.macros.specs.Starting.{empty_macro, range_of, started_from}
 
@@ -65,19 +64,19 @@ each_so P Q f (a ∷ l) h = (f a h.0, each_so P Q f l h.1)
 -- ---- macros
 
 module _ (P : Macro → Type 0) where
-  define-by : (f : Found) (m : Macro) (ms : List Macro) → P m → Each P ms → Each P (define_by f m ms)
-  define-by (At i) m ms g h =
+  define-by : (f : Result ℕ ℕ) (m : Macro) (ms : List Macro) → P m → Each P ms → Each P (define_by f m ms)
+  define-by (Ok i) m ms g h =
       each_append P (take i ms) (m ∷ drop (suc i) ms) (each_take P i ms h) (each_with P m (drop (suc i) ms) g (each_drop P (suc i) ms h))
-  define-by (Missing i) m ms g h =
+  define-by (Err i) m ms g h =
       each_append P (take i ms) (m ∷ drop i ms) (each_take P i ms h) (each_with P m (drop i ms) g (each_drop P i ms h))
 
   pub each_define : (m : Macro) (ms : List Macro) → P m → Each P ms → Each P (define m ms)
   unfolding define
   each_define m ms g h = define-by (find (macro_name m) ms) m ms g h
 
-  undefine-by : (f : Found) (ms : List Macro) → Each P ms → Each P (undefine_by f ms)
-  undefine-by (At i) ms h = each_append P (take i ms) (drop (suc i) ms) (each_take P i ms h) (each_drop P (suc i) ms h)
-  undefine-by (Missing i) ms h = h
+  undefine-by : (f : Result ℕ ℕ) (ms : List Macro) → Each P ms → Each P (undefine_by f ms)
+  undefine-by (Ok i) ms h = each_append P (take i ms) (drop (suc i) ms) (each_take P i ms h) (each_drop P (suc i) ms h)
+  undefine-by (Err i) ms h = h
 
   pub each_undefine : (w : List ℕ) (ms : List Macro) → Each P ms → Each P (undefine w ms)
   unfolding undefine

@@ -11,8 +11,7 @@ use borrow.Author.Tests.{leb-true}
 use Rattle.lex.proofs.Tests.{by_test, and_left, and_right}
 use Rattle.definition.specs.Definitions.{Macro, Definition, barred, bad, good, definition_at}
 use Rattle.store.specs.Stores.{Ascending, find, define, undefine, encode, fits}
-use Rattle.store.specs.declared.Found.{Found}
-use Rattle.store.specs.declared.Found.TheVariants.{At, Missing}
+use Rattle.std.proofs.Common.{Result, Ok, Err}
 use Rattle.store.proofs.Ordering.{define_ascends, undefine_ascends, undefine_length, undefine_missing}
 use Rattle.genuine.specs.Fitness.{fit_macro, all_fit}
 use Rattle.genuine.proofs.Fitting.{good_fit}
@@ -40,9 +39,9 @@ fits_few records bytes ms h =
 pub undefine_few : (w : List ℕ) (ms : List Macro) → length (undefine w ms) ≤ length ms
 undefine_few w ms = go (find w ms) refl
   where
-    go : (f : Found) → find w ms ≡ f → length (undefine w ms) ≤ length ms
-    go (At i) e = let l = undefine_length w ms e in omega arith
-    go (Missing i) e = let l = ap length (undefine_missing w ms e) in omega arith
+    go : (f : Result ℕ ℕ) → find w ms ≡ f → length (undefine w ms) ≤ length ms
+    go (Ok i) e = let l = undefine_length w ms e in omega arith
+    go (Err i) e = let l = ap length (undefine_missing w ms e) in omega arith
 
 module _ (records bytes : ℕ) where
   defined_sound : (m : Macro) (ms : List Macro) → fit_macro m ≡ true → Sound ms → Sound (cond (fits records bytes (define m ms)) (define m ms) ms)

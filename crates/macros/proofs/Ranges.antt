@@ -1,7 +1,7 @@
 -- The ranges of start macros, as the code walks them: names, repeats, sizes.
 -- Assumes nothing.
 use mathlib.Core.Path.{◌≡◌, refl, sym, ap, ◌∙◌}
-use mathlib.Core.Bool.{Bool, true, false, not, ◌&&◌, ◌||◌}
+use mathlib.Core.Bool.{Bool, true, false, cond, not, ◌&&◌, ◌||◌}
 use mathlib.Core.List.{List, [], ◌∷◌}
 use Prim.Native.Nat.{ℕ, zero, suc, ◌+◌, ◌-◌, ◌≤◌, ◌<◌}
 use native.Mathlib.Numerals.{add-one}
@@ -10,6 +10,7 @@ use borrow.Author.Tests.{ne_eqb, eq-eqb, lt-ltb, lt-leb, le-leb, not-true, not-f
 use lib.Dec.{eqb, ltb}
 use lib.ListN.{length, drop, get_or, length-take, drop_of_length-le}
 use lib.Seq.{drop-cons}
+use Rattle.std.specs.List.{list_any}
 use Rattle.text.specs.Bytes.{same, part}
 use Rattle.lex.specs.Tokens.{in_file, Name, Escaped, is, token_at}
 use Rattle.lex.specs.declared.Mode.{Mode}
@@ -51,11 +52,16 @@ module _ (w : List ℕ) {m : Mode} {t : Token} (f : m ≡ in_file) (e : t ≡ to
 
 -- ---- the ranges from i on
 
-module _ (s : List ℕ) (vs : List (List ℕ)) (i : ℕ) where
-  pub among_out : (w : List ℕ) → length vs ≤ i → named_among s w (drop i vs) ≡ false
-  unfolding named_among
-  among_out w h = rw (drop_of_length-le vs)
+or_cond : (b : Bool) {x y : Bool} → x ≡ y → (b || x) ≡ cond b true y
+or_cond true e = refl
+or_cond false e = e
 
+pub among_any : (s w : List ℕ) (vs : List (List ℕ)) → list_any (λ (v : List ℕ). same w (plainly (range_of s v))) vs ≡ named_among s w vs
+unfolding named_among
+among_any s w [] = refl
+among_any s w (v ∷ vs) = or_cond (same w (plainly (range_of s v))) (among_any s w vs)
+
+module _ (s : List ℕ) (vs : List (List ℕ)) (i : ℕ) where
   pub starts_out : length vs ≤ i → all_starts s (drop i vs) ≡ true
   unfolding all_starts
   starts_out h = rw (drop_of_length-le vs)
@@ -72,15 +78,6 @@ module _ (s : List ℕ) (vs : List (List ℕ)) (i : ℕ) where
     module _ {x y : List ℕ} (p : x ≡ range_of s (get_or vs i [])) (q : y ≡ plainly x) where
       name-at : plainly (range_of s (get_or vs i [])) ≡ y
       name-at = ap plainly (sym p) ∙ sym q
-
-      module _ (w : List ℕ) {b : Bool} (e : b ≡ same w y) where
-        pub among_hit : b ≡ true → named_among s w (drop i vs) ≡ true
-        unfolding named_among
-        among_hit a = rw (first_range, name-at, ← e, a)
-
-        pub among_miss : b ≡ false → named_among s w (drop i vs) ≡ named_among s w (drop (i + 1) vs)
-        unfolding named_among
-        among_miss a = rw (first_range, name-at, ← e, a)
 
       pub size_more : starts_size s (drop i vs) ≡ length y + 1 + starts_size s (drop (i + 1) vs)
       unfolding starts_size

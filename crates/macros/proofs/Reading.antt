@@ -25,10 +25,7 @@ use Rattle.definition.specs.declared.ReadError.{ReadError}
 use Rattle.definition.specs.declared.ReadError.TheVariants as unread
 use Rattle.store.specs.Stores.{macro_name, find, define_by, define, encode, fits}
 use Rattle.store.specs.Buffers.{Holds, FormIs, Defines}
-use Rattle.store.specs.declared.Found.{Found}
-use Rattle.store.specs.declared.Found.TheVariants.{At, Missing}
-use Rattle.store.specs.declared.Defined.{Defined}
-use Rattle.store.specs.declared.Defined.TheVariants.{Done, NoRoom}
+use Rattle.std.proofs.Common.{Result, Ok, Err, Option, Some, None}
 use Rattle.store.proofs.Rooms.{encode_split_long}
 use Rattle.genuine.proofs.Tests.{and_false}
 use Rattle.macros.specs.Defining.{GoodAt, Reads}
@@ -60,11 +57,11 @@ form_is s i {e} {m} {o} {o'} {p} {k} {x} {h} g q f r = record {
 
 -- ---- the answer
 
-abbrev answered : Defined → ℕ → ReadIn
-answered (Done k) e = read.Done k e
-answered NoRoom e = read.NoRoom
+abbrev answered : Option ℕ → ℕ → ReadIn
+answered (Some k) e = read.Done k e
+answered None e = read.NoRoom
 
-answered_by : (b : Bool) (n e : ℕ) → answered (cond b (Done n) NoRoom) e ≡ cond b (read.Done n e) read.NoRoom
+answered_by : (b : Bool) (n e : ℕ) → answered (cond b (Some n) None) e ≡ cond b (read.Done n e) read.NoRoom
 answered_by true n e = refl
 answered_by false n e = refl
 
@@ -76,9 +73,9 @@ define_long : (m : Macro) (ms : List Macro) → length (form_of m) ≤ length (e
 unfolding define
 define_long m ms = go (find (macro_name m) ms)
   where
-    go : (f : Found) → length (form_of m) ≤ length (encode (define_by f m ms))
-    go (At i) = omega (arith, encode_split_long (take i ms) m (drop (suc i) ms))
-    go (Missing i) = omega (arith, encode_split_long (take i ms) m (drop i ms))
+    go : (f : Result ℕ ℕ) → length (form_of m) ≤ length (encode (define_by f m ms))
+    go (Ok i) = omega (arith, encode_split_long (take i ms) m (drop (suc i) ms))
+    go (Err i) = omega (arith, encode_split_long (take i ms) m (drop i ms))
 
 no_room : (rl bl : ℕ) (m : Macro) (ms : List Macro) → bl < length (form_of m) → fits rl bl (define m ms) ≡ false
 unfolding fits
@@ -88,9 +85,9 @@ no_room rl bl m ms l =
     and_false (leb (length new) 256) (leb (length new) rl && leb (length (encode new)) bl) (and_false (leb (length new) rl) (leb (length (encode new)) bl) h)
 
 module _ {ms : List Macro} {b b' : List ℕ} {r r' : List (List ℕ)} {m : Macro} {e : ℕ} {x : Definition} (q : x ≡ good m e) where
-  pub reads_defined : {d : Defined} → Defines (length r) (length b) (define m ms) ms b' r' d → (g : Defined) → d ≡ g → Reads x ms b b' r r' (answered g e)
+  pub reads_defined : {d : Option ℕ} → Defines (length r) (length b) (define m ms) ms b' r' d → (g : Option ℕ) → d ≡ g → Reads x ms b b' r r' (answered g e)
   reads_defined {d} h g a = subst⁻¹ (λ (y : Definition). Reads y ms b b' r r' (answered g e)) q (record {
-    answer = ap (λ (y : Defined). answered y e) (sym a ∙ h.answer) ∙ answered_by (fits (length r) (length b) (define m ms)) (length (define m ms)) e;
+    answer = ap (λ (y : Option ℕ). answered y e) (sym a ∙ h.answer) ∙ answered_by (fits (length r) (length b) (define m ms)) (length (define m ms)) e;
     holds = h.holds;
   })
 

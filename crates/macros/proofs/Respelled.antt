@@ -15,7 +15,7 @@ use Rattle.text.proofs.Comparing.{order_turned, order_trans}
 use Rattle.lex.proofs.Tests.{and_left, and_right}
 use Rattle.definition.specs.Definitions.{Macro}
 use Rattle.store.specs.Stores.{macro_name, Below, Ascending, define, encode, fits}
-use Rattle.store.specs.declared.Found.TheVariants.{Missing}
+use Rattle.std.proofs.Common.{Err}
 use Rattle.store.proofs.Ordering.{Belongs, find_belongs, define_at}
 use Rattle.store.proofs.Rooms.{encode_long}
 use Rattle.genuine.specs.Fitness.{fit_macro, all_fit}
@@ -36,7 +36,7 @@ belongs_last (x ∷ a) m b s =
 
 define_last : (a : List Macro) (m : Macro) (b : List Macro) → Ascending (a ++ m ∷ b) → define m a ≡ a ++ (m ∷ [])
 define_last a m b s =
-    define_at m a (Missing (length a)) (find_belongs (macro_name m) a (length a) (belongs_last a m b s)) ∙ rw (take-length a, drop-length a)
+    define_at m a (Err (length a)) (find_belongs (macro_name m) a (length a) (belongs_last a m b s)) ∙ rw (take-length a, drop-length a)
 
 -- ---- the room that macros need
 

@@ -14,12 +14,9 @@ use Rattle.definition.specs.Definitions.{Macro}
 use Rattle.form.specs.Forms.{form_of}
 use Rattle.store.specs.Stores.{macro_at, find}
 use Rattle.store.specs.Buffers.{Holds}
-use Rattle.store.specs.declared.Found.{Found}
-use Rattle.store.specs.declared.Found.TheVariants.{At, Missing}
+use Rattle.std.proofs.Common.{Result, Ok, Err, Option, Some, None}
 use Rattle.store.proofs.Places.{found_below}
 use Rattle.genuine.specs.Layout.{left_in}
-use Rattle.genuine.specs.declared.Checked.{Checked}
-use Rattle.genuine.specs.declared.Checked.TheVariants.{Left, Foreign}
 use Rattle.genuine.proofs.Accepting.{left_complete}
 use Rattle.macros.specs.Looking.{plainly, shown_by, shown, Shows}
 
@@ -46,37 +43,37 @@ plain_shorter w e = omega (arith, ap length e, go w)
 
 -- ---- a macro
 
-module _ (w : List ℕ) {ms : List Macro} {b : List ℕ} {r : List (List ℕ)} {n : ℕ} {f : Found} (h : Holds ms b r n) (e : f ≡ find w ms) where
-  shown_by_lem : (g : Found) → f ≡ g → shown w ms ≡ shown_by g ms
+module _ (w : List ℕ) {ms : List Macro} {b : List ℕ} {r : List (List ℕ)} {n : ℕ} {f : Result ℕ ℕ} (h : Holds ms b r n) (e : f ≡ find w ms) where
+  shown_by_lem : (g : Result ℕ ℕ) → f ≡ g → shown w ms ≡ shown_by g ms
   unfolding shown
-  shown_by_lem g a = ap (λ (x : Found). shown_by x ms) (sym e ∙ a)
+  shown_by_lem g a = ap (λ (x : Result ℕ ℕ). shown_by x ms) (sym e ∙ a)
 
-  pub shown_at : (i : ℕ) → f ≡ At i → {p : List ℕ} → p ≡ form_of (macro_at ms i) → p ≡ shown w ms
-  shown_at i a q = q ∙ sym (shown_by_lem (At i) a)
+  pub shown_at : (i : ℕ) → f ≡ Ok i → {p : List ℕ} → p ≡ form_of (macro_at ms i) → p ≡ shown w ms
+  shown_at i a q = q ∙ sym (shown_by_lem (Ok i) a)
 
-  pub shown_past : (i : ℕ) → f ≡ At i → n ≤ i → {p : List ℕ} → p ≡ shown w ms
+  pub shown_past : (i : ℕ) → f ≡ Ok i → n ≤ i → {p : List ℕ} → p ≡ shown w ms
   shown_past i a l = absurd (omega (arith, found_below w h e i a))
 
-  pub shown_missing : (i : ℕ) → f ≡ Missing i → {p : List ℕ} → p ≡ [] → p ≡ shown w ms
-  shown_missing i a q = q ∙ sym (shown_by_lem (Missing i) a)
+  pub shown_missing : (i : ℕ) → f ≡ Err i → {p : List ℕ} → p ≡ [] → p ≡ shown w ms
+  shown_missing i a q = q ∙ sym (shown_by_lem (Err i) a)
 
 -- ---- a store
 
-module _ {b : List ℕ} {r : List (List ℕ)} {name p : List ℕ} {c : Checked} (e : c ≡ left_in b r) where
-  pub shows_left : (n : ℕ) → c ≡ Left n → (w : List ℕ) → w ≡ plainly name → ((ms : List Macro) → Holds ms b r n → p ≡ shown w ms)
+module _ {b : List ℕ} {r : List (List ℕ)} {name p : List ℕ} {c : Option ℕ} (e : c ≡ left_in b r) where
+  pub shows_left : (n : ℕ) → c ≡ Some n → (w : List ℕ) → w ≡ plainly name → ((ms : List Macro) → Holds ms b r n → p ≡ shown w ms)
       → Shows b r name p
   shows_left n k w q s = record {
     left = λ ms l.
-        let g : left_in b r ≡ Left (length ms) = left_complete ms b r l in
+        let g : left_in b r ≡ Some (length ms) = left_complete ms b r l in
         let z : n ≡ length ms = cc in
         s ms (subst (λ (i : ℕ). Holds ms b r i) (sym z) l.holds) ∙ ap (λ (v : List ℕ). shown v ms) q;
     foreign = λ g. cc;
   }
 
-  pub shows_foreign : c ≡ Foreign → p ≡ [] → Shows b r name p
+  pub shows_foreign : c ≡ None → p ≡ [] → Shows b r name p
   shows_foreign k q = record {
     left = λ ms l.
-        let g : left_in b r ≡ Left (length ms) = left_complete ms b r l in
+        let g : left_in b r ≡ Some (length ms) = left_complete ms b r l in
         cc;
     foreign = λ g. q;
   }

@@ -17,8 +17,7 @@ use Rattle.lex.proofs.Tests.{and_left, and_right, true_false}
 use Rattle.definition.specs.Definitions.{Macro, macro}
 use Rattle.form.specs.Forms.{parameter_forms, head_form, form_of}
 use Rattle.store.specs.Stores.{macro_name, macro_at, Ascending, find, define, encode, fits, no_macro}
-use Rattle.store.specs.declared.Found.{Found}
-use Rattle.store.specs.declared.Found.TheVariants.{At, Missing}
+use Rattle.std.proofs.Common.{Result, Ok, Err}
 use Rattle.store.proofs.Ordering.{find_at_name, find_at_lt, define_at, define_ascends, define_new_length}
 use Rattle.store.proofs.Rooms.{encode_insert_long}
 use Rattle.genuine.specs.Fitness.{all_fit}
@@ -79,15 +78,15 @@ module _ (s : List ℕ) where
   grown : (v : List ℕ) (vs : List (List ℕ)) (ms : List Macro) → Each (Unlike (v ∷ vs)) ms → Grown (empty_macro (range_of s v)) ms
   grown v vs ms h = go (find (plainly (range_of s v)) ms) refl
     where
-      go : (f : Found) → find (plainly (range_of s v)) ms ≡ f → Grown (empty_macro (range_of s v)) ms
-      go (At i) e =
+      go : (f : Result ℕ ℕ) → find (plainly (range_of s v)) ms ≡ f → Grown (empty_macro (range_of s v)) ms
+      go (Ok i) e =
           let w = plainly (range_of s v) in
           absurd (unlike_first v vs (macro_at ms i) (each_at (Unlike (v ∷ vs)) ms i no_macro (find_at_lt w ms e) h) (find_at_name w ms e))
-      go (Missing i) e =
+      go (Err i) e =
           let m = empty_macro (range_of s v) in
           record {
             count = define_new_length m ms e;
-            size = ap (λ (l : List Macro). length (encode l)) (define_at m ms (Missing i) e) ∙ encode_insert_long i ms m;
+            size = ap (λ (l : List Macro). length (encode l)) (define_at m ms (Err i) e) ∙ encode_insert_long i ms m;
           }
 
   next_unlike : (v : List ℕ) (vs : List (List ℕ)) (ms : List Macro) → Starting v vs → Each (Unlike (v ∷ vs)) ms → Each (Unlike vs) (define (empty_macro (range_of s v)) ms)

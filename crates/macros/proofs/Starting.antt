@@ -11,8 +11,7 @@ use lib.ListN.{length, take, get_or}
 use Rattle.definition.specs.Definitions.{Macro, macro}
 use Rattle.store.specs.Stores.{define, fits}
 use Rattle.store.specs.Buffers.{Holds, Stored, Defines}
-use Rattle.store.specs.declared.Defined.{Defined}
-use Rattle.store.specs.declared.Defined.TheVariants.{Done, NoRoom}
+use Rattle.std.proofs.Common.{Option, Some, None}
 use Rattle.lex.proofs.Tests.{and_left, and_right}
 use Rattle.genuine.proofs.Tests.{and_false}
 use Rattle.macros.specs.Looking.{plainly}
@@ -51,8 +50,8 @@ pub record Going (s : List ℕ) (vs : List (List ℕ)) (b₀ : List ℕ) (r₀ :
   pub holds : Holds (started s (take i vs)) b r n
 
 -- a definition that fits
-done : {rl bl : ℕ} (new : List Macro) {ms : List Macro} {b : List ℕ} {r : List (List ℕ)} {d : Defined} → fits rl bl new ≡ true → Defines rl bl new ms b r d
-    → (d ≡ Done (length new)) × Holds new b r (length new)
+done : {rl bl : ℕ} (new : List Macro) {ms : List Macro} {b : List ℕ} {r : List (List ℕ)} {d : Option ℕ} → fits rl bl new ≡ true → Defines rl bl new ms b r d
+    → (d ≡ Some (length new)) × Holds new b r (length new)
 done new f h = (rw f at h.answer, rw f at h.holds)
 
 module _ {s : List ℕ} {vs : List (List ℕ)} {b₀ : List ℕ} {r₀ : List (List ℕ)} {f₀ : List ℕ} (p : Starts s vs b₀ r₀ f₀) where
@@ -90,7 +89,7 @@ module _ {s : List ℕ} {vs : List (List ℕ)} {b₀ : List ℕ} {r₀ : List (L
         omega (arith, start_short s vs i l starting, ap length named, p.form_long, g.forms),
       )
 
-      module _ {b' : List ℕ} {r' : List (List ℕ)} {d : Defined}
+      module _ {b' : List ℕ} {r' : List (List ℕ)} {d : Option ℕ}
           (h : (ms : List Macro) → Holds ms b r n → Defines (length r) (length b) (define (macro y [] []) ms) ms b' r' d) where
         next_is : define (macro y [] []) (started s (take i vs)) ≡ started s (take (i + 1) vs)
         next_is = ap (λ (w : List ℕ). define (macro w [] []) (started s (take i vs))) named ∙ sym (front_next s vs i l)
@@ -101,11 +100,11 @@ module _ {s : List ℕ} {vs : List (List ℕ)} {b₀ : List ℕ} {r₀ : List (L
         fit : fits (length r) (length b) (started s (take (i + 1) vs)) ≡ true
         fit = rw (g.rows, g.bytes) (front_fits s (length r₀) (length b₀) vs p.fit (i + 1))
 
-        pub going_next : (k : ℕ) → d ≡ Done k → {f' : List ℕ} → length b' ≡ length b → length r' ≡ length r → length f' ≡ length f → Going s vs b₀ r₀ f₀ b' r' f' (i + 1) k
+        pub going_next : (k : ℕ) → d ≡ Some k → {f' : List ℕ} → length b' ≡ length b → length r' ≡ length r → length f' ≡ length f → Going s vs b₀ r₀ f₀ b' r' f' (i + 1) k
         going_next k e eb er ef =
             let new = started s (take (i + 1) vs) in
             let q = done new fit defined in
-            let a : d ≡ Done (length new) = q.0 in
+            let a : d ≡ Some (length new) = q.0 in
             let z : length new ≡ k = cc in
             record {
               place = omega arith;
@@ -115,8 +114,8 @@ module _ {s : List ℕ} {vs : List (List ℕ)} {b₀ : List ℕ} {r₀ : List (L
               holds = subst (λ (j : ℕ). Holds new b' r' j) z q.1;
             }
 
-        pub going_never : d ≡ NoRoom → ⊥
+        pub going_never : d ≡ None → ⊥
         going_never e =
-            let a : d ≡ Done (length (started s (take (i + 1) vs))) = (done (started s (take (i + 1) vs)) fit defined).0 in
+            let a : d ≡ Some (length (started s (take (i + 1) vs))) = (done (started s (take (i + 1) vs)) fit defined).0 in
             let z : ◌≡◌ {A = ℕ} 0 1 = cc in
             omega arith

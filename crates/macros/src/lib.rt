@@ -12,10 +12,10 @@ ghost use Rattle.macros.specs.Starting.{is_start_name, range_end, range_of, name
 
 use definition::{Judged, head_at, judge_definition};
 use form::write_form;
-use genuine::{Checked, check_store};
+use genuine::check_store;
 use lex::{ESCAPED, NAME, in_file, token_at};
 use names::directive_of;
-use store::{Defined, Found, define, find, form_at};
+use store::{define, find, form_at};
 use text::{part_of, same};
 
 // A definition in a text, read and stored: the number of macros then and its end; or barred by 2 to 6 at a place; or bad (11);
@@ -47,13 +47,13 @@ fn shown<'a>(bytes: &'a [u8], records: &[[u32; 4]], count: usize, w: &[u8]) -> &
 {
     let f = find(bytes, records, count, w);
     match f {
-        Found::At(i) => {
+        Ok(i) => {
             if count <= i {
                 return part_of(bytes, 0, 0);
             }
             form_at(bytes, records, count, i)
         }
-        Found::Missing(_) => part_of(bytes, 0, 0),
+        Err(_) => part_of(bytes, 0, 0),
     }
 }
 
@@ -64,8 +64,8 @@ pub fn look_up<'a>(bytes: &'a [u8], records: &[[u32; 4]], name: &[u8]) -> &'a [u
 {
     let c = check_store(records, bytes);
     match c {
-        Checked::Left(n) => shown(bytes, records, n, plain_name(name)),
-        Checked::Foreign => part_of(bytes, 0, 0),
+        Some(n) => shown(bytes, records, n, plain_name(name)),
+        None => part_of(bytes, 0, 0),
     }
 }
 
@@ -96,8 +96,8 @@ fn store_good(
                 text,
             );
             match d {
-                Defined::Done(k) => ReadIn::Done(k, end),
-                Defined::NoRoom => ReadIn::NoRoom,
+                Some(k) => ReadIn::Done(k, end),
+                None => ReadIn::NoRoom,
             }
         }
         Err(_) => ReadIn::NoRoom,
@@ -166,14 +166,10 @@ fn range_end(v: [u32; 2]) -> usize
 fn named_among(s: &[u8], ranges: &[[u32; 2]], at: usize, w: &[u8]) -> bool
     ensures { result ≡ named_among s.now w.now (drop at ranges.now) }
 {
-    let mut i = at;
-    while i < ranges.len() {
-        if same(w, plain_name(range_of(s, ranges[i]))) {
-            return true;
-        }
-        i += 1;
-    }
-    false
+    ranges
+        .iter()
+        .skip(at)
+        .any(|&v| same(w, plain_name(range_of(s, v))))
 }
 
 // Whether range `i` is inside the store and has a start macro's name that none of those behind it has.
@@ -195,12 +191,10 @@ fn is_start_at(s: &[u8], ranges: &[[u32; 2]], i: usize) -> bool
 fn all_starts(s: &[u8], ranges: &[[u32; 2]]) -> bool
     ensures { result ≡ all_starts s.now ranges.now }
 {
-    let mut i = 0;
-    while i < ranges.len() {
+    for i in 0..ranges.len() {
         if !is_start_at(s, ranges, i) {
             return false;
         }
-        i += 1;
     }
     true
 }
@@ -210,12 +204,10 @@ fn starts_size(s: &[u8], ranges: &[[u32; 2]]) -> usize
     requires { length ranges.now ≤ 256 }
     ensures { result ≡ starts_size s.now ranges.now }
 {
-    let mut i = 0;
     let mut n = 0;
-    while i < ranges.len() {
-        let w = plain_name(range_of(s, ranges[i]));
+    for &v in ranges {
+        let w = plain_name(range_of(s, v));
         n += w.len() + 1;
-        i += 1;
     }
     n
 }
@@ -236,23 +228,19 @@ pub fn starts_fit(s: &[u8], ranges: &[[u32; 2]], records: usize, bytes: usize) -
     starts_size(s, ranges) <= bytes
 }
 
-// Defines the macro `w` empty, with bytes for its stored form.
+// Defines the macro `w` empty, with bytes for its stored form: the number of macros then, or `None` where there is no room.
 fn define_empty(
     w: &[u8],
     bytes: &mut [u8],
     records: &mut [[u32; 4]],
     count: usize,
     form: &mut [u8],
-) -> Defined
+) -> Option<usize>
     requires { (length bytes.old ≤ 65536) × (count ≤ 256) × (Stored bytes.old records.old count) × (length w.now < length form.old) }
     ensures { (ms : List Macro) → Holds ms bytes.old records.old count → Defines (length records.old) (length bytes.old) (defineMacro (macro w.now [] []) ms) ms bytes.new records.new result }
 {
     let n = w.len();
-    let mut i = 0;
-    while i < n {
-        form[i] = w[i];
-        i += 1;
-    }
+    form[0..n].copy_from_slice(w);
     form[n] = 0;
     define(bytes, records, count, part_of(form, 0, n + 1), n, n + 1)
 }
@@ -268,20 +256,12 @@ pub fn define_starts(
     requires { Starts s.now ranges.now bytes.old records.old form.old }
     ensures { Holds (started s.now ranges.now) bytes.new records.new result }
 {
-    let mut i = 0;
     let mut n = 0;
-    while i < ranges.len() {
-        let w = plain_name(range_of(s, ranges[i]));
-        let d = define_empty(w, bytes, records, n, form);
-        match d {
-            Defined::Done(k) => {
-                n = k;
-                i += 1;
-                continue;
-            }
-            Defined::NoRoom => {
-                return n;
-            }
+    for &v in ranges {
+        let w = plain_name(range_of(s, v));
+        match define_empty(w, bytes, records, n, form) {
+            Some(k) => n = k,
+            None => return n,
         }
     }
     n

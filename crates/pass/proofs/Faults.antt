@@ -12,8 +12,7 @@ use Rattle.packed.specs.Records.{blank_record, RecordIs}
 use Rattle.packed.specs.declared.Record.{Record}
 use Rattle.store.specs.Stores.{macro_at, find}
 use Rattle.store.specs.Buffers.{Holds}
-use Rattle.store.specs.declared.Found.{Found}
-use Rattle.store.specs.declared.Found.TheVariants.{At, Missing}
+use Rattle.std.proofs.Common.{Result, Ok, Err}
 use Rattle.store.proofs.Places.{found_below}
 use Rattle.packed.proofs.Rows.{any_default}
 use Rattle.pending.specs.declared.Pend.{Pend}
@@ -48,19 +47,19 @@ formals_same : (m : Macro) → formals_of m ≡ formals m
 formals_same (macro n fs t) = refl
 
 -- of w, by what the search answered
-module _ (w : List ℕ) (ps : List Pending) {ms : List Macro} {b : List ℕ} {r : List (List ℕ)} {n : ℕ} {f : Found} (h : Holds ms b r n) (e : f ≡ find w ms) where
-  usage_by : (g : Found) → f ≡ g → usage_fault ms w ps ≡ found_fault g ms ps
+module _ (w : List ℕ) (ps : List Pending) {ms : List Macro} {b : List ℕ} {r : List (List ℕ)} {n : ℕ} {f : Result ℕ ℕ} (h : Holds ms b r n) (e : f ≡ find w ms) where
+  usage_by : (g : Result ℕ ℕ) → f ≡ g → usage_fault ms w ps ≡ found_fault g ms ps
   unfolding usage_fault
-  usage_by g a = ap (λ (x : Found). found_fault x ms ps) (sym e ∙ a)
+  usage_by g a = ap (λ (x : Result ℕ ℕ). found_fault x ms ps) (sym e ∙ a)
 
-  pub usage_missing : (i : ℕ) → f ≡ Missing i → verdict.Bad 13 ≡ verdict_of (usage_fault ms w ps)
-  usage_missing i a = sym (ap verdict_of (usage_by (Missing i) a))
+  pub usage_missing : (i : ℕ) → f ≡ Err i → verdict.Bad 13 ≡ verdict_of (usage_fault ms w ps)
+  usage_missing i a = sym (ap verdict_of (usage_by (Err i) a))
 
   -- the list of macro i, whose record is q, was sought
-  module _ (i : ℕ) (a : f ≡ At i) (small : length b ≤ 65536) {q : Record} (k : RecordIs (get_or r i blank_record) q) (g : ℕ → List Pending) (last : ℕ)
+  module _ (i : ℕ) (a : f ≡ Ok i) (small : length b ≤ 65536) {q : Record} (k : RecordIs (get_or r i blank_record) q) (g : ℕ → List Pending) (last : ℕ)
       (ranges : List (List ℕ)) (o : Sought) (s : (fs : List Parameter) (t : List ℕ) → MacroIn b q fs t → AcceptedBy o (list_for fs ps) g last ranges) where
     bar_is : usage_fault ms w ps ≡ bar_of (list_for (formals_of (macro_at ms i)) ps)
-    bar_is = usage_by (At i) a ∙ ap (λ (fs : List Parameter). bar_of (list_for fs ps)) (sym (formals_same (macro_at ms i)))
+    bar_is = usage_by (Ok i) a ∙ ap (λ (fs : List Parameter). bar_of (list_for fs ps)) (sym (formals_same (macro_at ms i)))
 
     sought_by : (v : Sought) → o ≡ v → AcceptedBy v (list_for (formals_of (macro_at ms i)) ps) g last ranges
     sought_by v z =

@@ -10,8 +10,7 @@ use lib.ListN.{length, get_or}
 use borrow.Author.Tests.{eqb-true}
 use Rattle.definition.specs.Definitions.{Macro}
 use Rattle.store.specs.Stores.{find}
-use Rattle.store.specs.declared.Found.{Found}
-use Rattle.store.specs.declared.Found.TheVariants.{At, Missing}
+use Rattle.std.proofs.Common.{Result, Ok, Err}
 use Rattle.sets.specs.Sets.{elem, insert_asc}
 use Rattle.packed.proofs.Rows.{any_default}
 use Rattle.pending.specs.declared.Pend.{Pend}
@@ -45,10 +44,10 @@ elem_insert j x (y ∷ l) = go (ltb x y) (eqb x y) refl (elem_insert j x l)
 
 -- ---- what one token uses
 
-used_same : (f : Found) (j : ℕ) (r r' : List ℕ) → elem j r ≡ elem j r' → elem j (used_by f r) ≡ elem j (used_by f r')
+used_same : (f : Result ℕ ℕ) (j : ℕ) (r r' : List ℕ) → elem j r ≡ elem j r' → elem j (used_by f r) ≡ elem j (used_by f r')
 unfolding elem
-used_same (At i) j r r' e = ap (cond (eqb j i) true) e
-used_same (Missing i) j r r' e = e
+used_same (Ok i) j r r' e = ap (cond (eqb j i) true) e
+used_same (Err i) j r r' e = e
 
 module _ (ms : List Macro) where
   uses_same : (v : View) (j : ℕ) (r r' : List ℕ) → elem j r ≡ elem j r' → elem j (uses_of v ms r) ≡ elem j (uses_of v ms r')
@@ -63,17 +62,17 @@ module _ (ms : List Macro) where
     pub use_other : t ≡ false → elem j r ≡ elem j (uses_of (view (pending_by b b (pend_of v))) ms r)
     use_other a = ap (elem j) (sym (not_usage (view (pending_by b b x)) r _ (sym c ∙ a)) ∙ as_read)
 
-    module _ (a : t ≡ true) {w : List ℕ} (d : w ≡ (pending_by b b x).name) {f : Found} (e : f ≡ find w ms) where
-      use_by : (g : Found) → f ≡ g → used_by g r ≡ uses_of (view (pending_by b b (pend_of v))) ms r
+    module _ (a : t ≡ true) {w : List ℕ} (d : w ≡ (pending_by b b x).name) {f : Result ℕ ℕ} (e : f ≡ find w ms) where
+      use_by : (g : Result ℕ ℕ) → f ≡ g → used_by g r ≡ uses_of (view (pending_by b b (pend_of v))) ms r
       use_by g q =
-          ap (λ (y : Found). used_by y r) (sym q ∙ e ∙ ap (λ (y : List ℕ). find y ms) d)
+          ap (λ (y : Result ℕ ℕ). used_by y r) (sym q ∙ e ∙ ap (λ (y : List ℕ). find y ms) d)
           ∙ ap (λ (y : View). uses_of y ms r) (sym (usage_view b b x (sym c ∙ a))) ∙ as_read
 
-      pub use_missing : (i : ℕ) → f ≡ Missing i → elem j r ≡ elem j (uses_of (view (pending_by b b (pend_of v))) ms r)
-      use_missing i q = ap (elem j) (use_by (Missing i) q)
+      pub use_missing : (i : ℕ) → f ≡ Err i → elem j r ≡ elem j (uses_of (view (pending_by b b (pend_of v))) ms r)
+      use_missing i q = ap (elem j) (use_by (Err i) q)
 
-      pub use_at : (i : ℕ) → f ≡ At i → {m : List ℕ} → m ≡ insert_asc i r → elem j m ≡ elem j (uses_of (view (pending_by b b (pend_of v))) ms r)
-      use_at i q k = ap (elem j) k ∙ elem_insert j i r ∙ ap (elem j) (use_by (At i) q)
+      pub use_at : (i : ℕ) → f ≡ Ok i → {m : List ℕ} → m ≡ insert_asc i r → elem j m ≡ elem j (uses_of (view (pending_by b b (pend_of v))) ms r)
+      use_at i q k = ap (elem j) k ∙ elem_insert j i r ∙ ap (elem j) (use_by (Ok i) q)
 
   -- ---- what the tokens of a list use
 

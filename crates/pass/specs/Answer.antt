@@ -1,11 +1,10 @@
 -- What pass answers.
 -- Assumes nothing.
-use Rattle.std.specs.Prelude.{ℕ, ◌≡◌, List, []}
+use Rattle.std.specs.Prelude.{ℕ, ◌≡◌, List, [], None}
 use Rattle.definition.specs.Definitions.{Macro}
 use Rattle.store.specs.Stores.{macro_name, macro_at}
 use Rattle.genuine.specs.Layout.{left_in}
 use Rattle.genuine.specs.Leaving.{LeftBy}
-use Rattle.genuine.specs.declared.Checked.TheVariants.{Foreign}
 use Rattle.passing.specs.Passing.{Passed, yes, fault, pass_of}
 use Rattle.pass.specs.declared.Answer.{Answer}
 use Rattle.pass.specs.declared.Answer.TheVariants as answer
@@ -29,4 +28,4 @@ name_in ms answer.Foreign = []
 -- pass's contract: `passOf` of the macros stored; "On a store that no definitions leave, .. pass refuses with 1"
 pub record Passes (b : List ℕ) (r : List (List ℕ)) (a : Answer) : Type 0 where
   pub left : (ms : List Macro) → LeftBy ms b r → a ≡ answer_of (pass_of ms)
-  pub foreign : left_in b r ≡ Foreign → a ≡ answer.Foreign
+  pub foreign : left_in b r ≡ None → a ≡ answer.Foreign

@@ -18,14 +18,14 @@ ghost use Rattle.pass.specs.Judging.{verdict_of, Unfolds, Kept, Works};
 
 use arguments::Sought;
 use expand::usages::{accept, is_usage};
-use genuine::{Checked, check_store};
+use genuine::check_store;
 use lex::{in_text, marks_after, token_at};
 use packed::{Record, read};
 use pending::{name_of, numbers_of, pend_of};
 use reach::{close_rows, row_of, set_of};
 use replace::stored_ref;
 use sets::MacroSet;
-use store::{Found, find};
+use store::find;
 use text::part_of;
 
 // Yes; or the first macro at fault, by its number, and its refusal; or a store that no definitions leave (1).
@@ -79,14 +79,14 @@ fn usage_fault(
 {
     let f = find(b, records, macros, w);
     match f {
-        Found::At(i) => {
+        Ok(i) => {
             let r = accept(b, b, read(records, i), list, n, false, at, ranges, stack);
             match r {
                 Sought::List(_, _) => Verdict::Good,
                 Sought::Refused(k, _) => Verdict::Bad(k),
             }
         }
-        Found::Missing(_) => Verdict::Bad(13),
+        Err(_) => Verdict::Bad(13),
     }
 }
 
@@ -150,10 +150,10 @@ fn with_use(b: &[u8], records: &[[u32; 4]], macros: usize, v: [u64; 9], uses: Ma
     if is_usage(b, b, p) {
         let f = find(b, records, macros, name_of(b, b, p));
         match f {
-            Found::At(i) => {
+            Ok(i) => {
                 return sets::insert(uses, i as u64);
             }
-            Found::Missing(_) => {
+            Err(_) => {
                 return uses;
             }
         }
@@ -294,7 +294,7 @@ pub fn pass(bytes: &[u8], records: &[[u32; 4]]) -> Answer
 {
     let c = check_store(records, bytes);
     match c {
-        Checked::Left(n) => pass_stored(bytes, records, n),
-        Checked::Foreign => Answer::Foreign,
+        Some(n) => pass_stored(bytes, records, n),
+        None => Answer::Foreign,
     }
 }

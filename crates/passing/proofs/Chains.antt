@@ -14,8 +14,7 @@ use lib.ListN.{length}
 use borrow.Author.Tests.{eqb-true, eqb-false, eq-eqb}
 use Rattle.definition.specs.Definitions.{Macro}
 use Rattle.store.specs.Stores.{find}
-use Rattle.store.specs.declared.Found.{Found}
-use Rattle.store.specs.declared.Found.TheVariants.{At, Missing}
+use Rattle.std.proofs.Common.{Result, Ok, Err}
 use Rattle.store.proofs.Ordering.{find_at_lt}
 use Rattle.pending.specs.Pending.{Pending, view}
 use Rattle.pending.proofs.Viewing.{by_usage}
@@ -64,10 +63,10 @@ module _ (ms : List Macro) where
   -- ---- walks
 
   -- usages name macros of the set
-  used_below : (w : List ℕ) (r : List ℕ) (j : ℕ) → (In j r → j < length ms) → (f : Found) → find w ms ≡ f → In j (used_by f r) → j < length ms
-  used_below w r j ih (At i) e (first q) = subst (λ (z : ℕ). z < length ms) (sym q) (find_at_lt w ms e)
-  used_below w r j ih (At i) e (later h) = ih h
-  used_below w r j ih (Missing i) e h = ih h
+  used_below : (w : List ℕ) (r : List ℕ) (j : ℕ) → (In j r → j < length ms) → (f : Result ℕ ℕ) → find w ms ≡ f → In j (used_by f r) → j < length ms
+  used_below w r j ih (Ok i) e (first q) = subst (λ (z : ℕ). z < length ms) (sym q) (find_at_lt w ms e)
+  used_below w r j ih (Ok i) e (later h) = ih h
+  used_below w r j ih (Err i) e h = ih h
 
   pub uses_below : (ps : List Pending) (j : ℕ) → In j (uses_in ms ps) → j < length ms
   unfolding uses_in

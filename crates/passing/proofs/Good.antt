@@ -6,7 +6,7 @@ use mathlib.Core.Path.{◌≡◌}
 use mathlib.Core.List.{List, [], ◌∷◌, ◌++◌}
 use Rattle.definition.specs.Definitions.{Parameter, Macro}
 use Rattle.store.specs.Stores.{macro_at, find}
-use Rattle.store.specs.declared.Found.TheVariants.{At}
+use Rattle.std.proofs.Common.{Ok}
 use Rattle.pending.specs.Pending.{View, calls, is_call}
 use Rattle.replace.specs.Replacing.{enough}
 use Rattle.passing.specs.Passing.{formals_of}
@@ -19,7 +19,7 @@ pub data Needs : List Parameter → List View → Type 0 where
 
 pub record Good (ms : List Macro) (w : List ℕ) (vs : List View) : Type 0 where
   pub number : ℕ
-  pub stored : find w ms ≡ At number
+  pub stored : find w ms ≡ Ok number
   pub list : Needs (formals_of (macro_at ms number)) vs
 
 -- every usage among these is a good one

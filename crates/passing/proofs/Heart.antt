@@ -14,8 +14,7 @@ use Rattle.lex.proofs.Tests.{by_test, and_left, and_right, true_false}
 use Rattle.definition.specs.Definitions.{Parameter, Macro, macro}
 use Rattle.sets.specs.Sets.{elem, insert_asc}
 use Rattle.store.specs.Stores.{macro_at, find}
-use Rattle.store.specs.declared.Found.{Found}
-use Rattle.store.specs.declared.Found.TheVariants.{At, Missing}
+use Rattle.std.proofs.Common.{Result, Ok, Err}
 use Rattle.store.proofs.Ordering.{find_at_lt}
 use Rattle.writing.specs.Written.{Room}
 use Rattle.pending.specs.Pending.{Pending, file_tokens, file_from, is_call, view}
@@ -114,7 +113,7 @@ module _ (ms : List Macro) (h : ℕ) where
           → Going ms h [] (replace_by m (insert_asc i []) ps)
       macro_going (macro n fs t) p ps b q = list_going n fs t p (list_for fs ps) (valued_for fs ps b q)
 
-    replace_going : (w : List ℕ) (ps : List Pending) (i : ℕ) → find w ms ≡ At i → Under ms h i [] → All Bare ps
+    replace_going : (w : List ℕ) (ps : List Pending) (i : ℕ) → find w ms ≡ Ok i → Under ms h i [] → All Bare ps
         → quiet (list_for (formals_of (macro_at ms i)) ps) ≡ true → Going ms h [] (replace ms w [] ps)
     replace_going w ps i e u b q =
         let l : i < length ms = find_at_lt w ms e in
@@ -134,11 +133,11 @@ pub heart : (ms : List Macro) (w s : List ℕ) (i n : ℕ) (o : Outer) (r : Room
 unfolding tame chain_from expand first
 heart ms w s i n o r sound pass t = go (find w ms) refl t
   where
-    go : (f : Found) → find w ms ≡ f → tame_by f ms (file_from s i) ≡ true
+    go : (f : Result ℕ ℕ) → find w ms ≡ f → tame_by f ms (file_from s i) ≡ true
         → Soft (expand n o ms r w s i).stop × ((expand n o ms r w s i).depth ≤ chain_by f ms)
-    go (At j) e q =
+    go (Ok j) e q =
         let c : Calm (chain ms j) (expand n o ms r w s i) =
         going_calm ms (chain ms j) pass sound n o r (replace ms w [] (file_from s i))
         (replace_going ms (chain ms j) pass sound w (file_from s i) j e (under_none ms j) (bare_file s i) q) in
         (c.stopped, c.deep)
-    go (Missing j) e q = true_false false q refl
+    go (Err j) e q = true_false false q refl

@@ -17,8 +17,7 @@ use Rattle.lex.proofs.Tests.{by_test, true_false}
 use Rattle.definition.specs.Definitions.{Parameter, Macro, macro}
 use Rattle.sets.specs.Sets.{elem, insert_asc}
 use Rattle.store.specs.Stores.{macro_text, macro_at, find}
-use Rattle.store.specs.declared.Found.{Found}
-use Rattle.store.specs.declared.Found.TheVariants.{At, Missing}
+use Rattle.std.proofs.Common.{Result, Ok, Err}
 use Rattle.store.proofs.Ordering.{find_at_lt}
 use Rattle.writing.specs.Written.{Written, placed, map_of, Room, Put, full, fitted, put_in}
 use Rattle.pending.specs.Pending.{Pending, text_token, text_tokens, View, calls, is_comment, is_call, view}
@@ -51,7 +50,7 @@ pub record Under (ms : List Macro) (h i : ℕ) (s : List ℕ) : Type 0 where
 
 pub record High (ms : List Macro) (h : ℕ) (p : Pending) : Type 0 where
   pub small : length p.own ≤ h
-  pub used : (w : List ℕ) (i : ℕ) → view p ≡ calls w → find w ms ≡ At i → Under ms h i p.own
+  pub used : (w : List ℕ) (i : ℕ) → view p ≡ calls w → find w ms ≡ Ok i → Under ms h i p.own
 
 -- a pending list
 pub record Ready (ms : List Macro) (h : ℕ) (ps : List Pending) : Type 0 where
@@ -138,11 +137,11 @@ module _ (ms : List Macro) (h : ℕ) where
   given_for (x ∷ fs) ps (needs_list n l e) f = given_sized (x ∷ fs) ps (seek ps) (seek_listed ps l) (sought_of ps) e f
 
   -- a usage is replaced by its macro, which is not in its set
-  pub replaced_by : (w s : List ℕ) (ps : List Pending) (i : ℕ) (P : Got → Type 0) → find w ms ≡ At i → Under ms h i s
+  pub replaced_by : (w s : List ℕ) (ps : List Pending) (i : ℕ) (P : Got → Type 0) → find w ms ≡ Ok i → Under ms h i s
       → P (replace_by (macro_at ms i) (insert_asc i s) ps) → P (replace ms w s ps)
   unfolding replace
   replaced_by w s ps i P e u k =
-      subst (λ (f : Found). P (replace_at f ms s ps)) (sym e) (by_test P (elem i s) (λ d. true_false (elem i s) d (not_elem i s u)) (λ d. k))
+      subst (λ (f : Result ℕ ℕ). P (replace_at f ms s ps)) (sym e) (by_test P (elem i s) (λ d. true_false (elem i s) d (not_elem i s u)) (λ d. k))
 
   module _ (pass : pass_of ms ≡ yes) (sound : (i : ℕ) → Sound (formals_of (macro_at ms i))) where
     -- a usage of macro i, whose set is s
@@ -177,14 +176,14 @@ module _ (ms : List Macro) (h : ℕ) where
           by_usage (λ (l : List ℕ). ((j : ℕ) → In j l → In j (uses ms i)) → High ms h p) v (λ c k. plain_high p o (ap is_call e ∙ c))
           (λ w c k. record { small = small_own p o; used = λ x j q f. subst (λ (z : List ℕ). Under ms h j z) (sym o) (used_under j (k j (named w x j (e ∙ c) q f))) })
         where
-          named : (w x : List ℕ) (j : ℕ) → view p ≡ calls w → view p ≡ calls x → find x ms ≡ At j → In j (used_by (find w ms) r)
+          named : (w x : List ℕ) (j : ℕ) → view p ≡ calls w → view p ≡ calls x → find x ms ≡ Ok j → In j (used_by (find w ms) r)
           named w x j c q f =
               let y : x ≡ w = cc in
-              subst (λ (z : Found). In j (used_by z r)) (sym (ap (λ (z : List ℕ). find z ms) (sym y) ∙ f)) (first refl)
+              subst (λ (z : Result ℕ ℕ). In j (used_by z r)) (sym (ap (λ (z : List ℕ). find z ms) (sym y) ∙ f)) (first refl)
 
-      used_more : (f : Found) (r : List ℕ) (j : ℕ) → In j r → In j (used_by f r)
-      used_more (At k) r j m = later m
-      used_more (Missing k) r j m = m
+      used_more : (f : Result ℕ ℕ) (r : List ℕ) (j : ℕ) → In j r → In j (used_by f r)
+      used_more (Ok k) r j m = later m
+      used_more (Err k) r j m = m
 
       uses_more : (v : View) (r : List ℕ) (j : ℕ) → In j r → In j (uses_of v ms r)
       uses_more v r j m = by_usage (λ (l : List ℕ). In j l) v (λ c. m) (λ w c. used_more (find w ms) r j m)

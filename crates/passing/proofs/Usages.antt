@@ -10,8 +10,7 @@ use mathlib.Core.List.{List, [], ◌∷◌, ◌++◌}
 use lib.ListN.{length}
 use Rattle.definition.specs.Definitions.{Parameter, Macro}
 use Rattle.store.specs.Stores.{macro_at, find}
-use Rattle.store.specs.declared.Found.{Found}
-use Rattle.store.specs.declared.Found.TheVariants.{At, Missing}
+use Rattle.std.proofs.Common.{Result, Ok, Err}
 use Rattle.pending.specs.Pending.{Pending, View, calls, is_call, view}
 use Rattle.pending.proofs.Viewing.{by_usage}
 use Rattle.arguments.specs.Arguments.{Args, bad, args, seek}
@@ -49,9 +48,9 @@ module _ (ms : List Macro) where
   unfolding usage_fault
   good_of w ps h = go (find w ms) refl h
     where
-      go : (f : Found) → find w ms ≡ f → found_fault f ms ps ≡ none → Good ms w (views ps)
-      go (At i) e k = record { number = i; stored = e; list = needs_of (formals_of (macro_at ms i)) ps k }
-      go (Missing i) e k = absurd (let z : ◌≡◌ {A = ℕ} 0 1 = cc in omega arith)
+      go : (f : Result ℕ ℕ) → find w ms ≡ f → found_fault f ms ps ≡ none → Good ms w (views ps)
+      go (Ok i) e k = record { number = i; stored = e; list = needs_of (formals_of (macro_at ms i)) ps k }
+      go (Err i) e k = absurd (let z : ◌≡◌ {A = ℕ} 0 1 = cc in omega arith)
 
   fine_at : (p : Pending) (ps : List Pending) → fault_of (view p) ms ps ≡ none → Fine ms (views ps) → Fine ms (views (p ∷ ps))
   fine_at p ps =
@@ -101,7 +100,7 @@ module _ (ms : List Macro) where
 
   none_accepted : (w : List ℕ) (ps : List Pending) → Accepted ms w ps → usage_fault ms w ps ≡ none
   unfolding usage_fault
-  none_accepted w ps a = ap (λ (f : Found). found_fault f ms ps) a.stored ∙ ap bar_of a.taken
+  none_accepted w ps a = ap (λ (f : Result ℕ ℕ). found_fault f ms ps) a.stored ∙ ap bar_of a.taken
 
   none_at : (p : Pending) (ps : List Pending) → ((w : List ℕ) → view p ≡ calls w → Accepted ms w ps) → fault_of (view p) ms ps ≡ none
   none_at p ps a = by_usage (λ (o : Option ℕ). o ≡ none) (view p) (λ e. refl) (λ w e. none_accepted w ps (a w e))

@@ -1,10 +1,8 @@
 -- Chains of macros, and the usages that demand 3 speaks of.
 -- Assumes nothing.
-use Rattle.std.specs.Prelude.{ℕ, zero, suc, max, Bool, true, false, not, ◌&&◌, List, [], ◌∷◌, length}
+use Rattle.std.specs.Prelude.{ℕ, zero, suc, max, Bool, true, false, not, ◌&&◌, List, [], ◌∷◌, length, Result, Ok, Err}
 use Rattle.definition.specs.Definitions.{Macro}
 use Rattle.store.specs.Stores.{macro_at, find}
-use Rattle.store.specs.declared.Found.{Found}
-use Rattle.store.specs.declared.Found.TheVariants.{At, Missing}
 use Rattle.pending.specs.Pending.{Pending, is_call, view}
 use Rattle.replace.specs.Replacing.{Listed, barred, listed, list_for}
 use Rattle.passing.specs.Passing.{formals_of, uses}
@@ -33,17 +31,17 @@ abbrev pub quiet : Listed → Bool
 quiet (barred n i) = false
 quiet (listed xs r) = no_usages xs
 
-abbrev pub tame_by : Found → List Macro → List Pending → Bool
-tame_by (Missing i) ms ps = false
-tame_by (At i) ms ps = quiet (list_for (formals_of (macro_at ms i)) ps)
+abbrev pub tame_by : Result ℕ ℕ → List Macro → List Pending → Bool
+tame_by (Err i) ms ps = false
+tame_by (Ok i) ms ps = quiet (list_for (formals_of (macro_at ms i)) ps)
 
 -- a usage of w, followed by ps: it "names one of them, with an accepted list whose arguments hold no usage of their own"
 unfoldable pub tame : List Macro → List ℕ → List Pending → Bool
 tame ms w ps = tame_by (find w ms) ms ps
 
-abbrev pub chain_by : Found → List Macro → ℕ
-chain_by (Missing i) ms = 0
-chain_by (At i) ms = chain ms i
+abbrev pub chain_by : Result ℕ ℕ → List Macro → ℕ
+chain_by (Err i) ms = 0
+chain_by (Ok i) ms = chain ms i
 
 -- "the longest chain from the one used"
 unfoldable pub chain_from : List Macro → List ℕ → ℕ

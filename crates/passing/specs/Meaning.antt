@@ -1,11 +1,10 @@
 -- What pass and chains mean, in demand 3's words.
 -- Assumes nothing.
-use Rattle.std.specs.Prelude.{ℕ, ◌<◌, ◌≤◌, ◌≡◌, length}
+use Rattle.std.specs.Prelude.{ℕ, ◌<◌, ◌≤◌, ◌≡◌, length, Ok}
 use Rattle.std.proofs.Math.Option.{none, some}
 use mathlib.Core.List.{List, [], ◌∷◌, ◌++◌, Memᴰ as In}
 use Rattle.definition.specs.Definitions.{Macro}
 use Rattle.store.specs.Stores.{macro_at, find}
-use Rattle.store.specs.declared.Found.TheVariants.{At}
 use Rattle.pending.specs.Pending.{Pending, calls, view}
 use Rattle.replace.specs.Replacing.{listed, list_for}
 use Rattle.passing.specs.Passing.{formals_of, text_at, uses, macro_fault}
@@ -13,7 +12,7 @@ use Rattle.passing.specs.Passing.{formals_of, text_at, uses, macro_fault}
 -- a usage of w, followed by ps, "names a macro of the set and gives a list which that macro accepts"
 pub record Accepted (ms : List Macro) (w : List ℕ) (ps : List Pending) : Type 0 where
   pub number : ℕ
-  pub stored : find w ms ≡ At number
+  pub stored : find w ms ≡ Ok number
   pub arguments : List (List Pending)
   pub rest : List Pending
   pub taken : list_for (formals_of (macro_at ms number)) ps ≡ listed arguments rest

@@ -1,12 +1,10 @@
 -- Pass (01: "Pass answers yes, or the first macro in byte order at fault").
 -- Assumes nothing.
-use Rattle.std.specs.Prelude.{ℕ, zero, suc, Bool, false, cond, ◌||◌, List, [], ◌∷◌, eqb, length}
+use Rattle.std.specs.Prelude.{ℕ, zero, suc, Bool, false, cond, ◌||◌, List, [], ◌∷◌, eqb, length, Result, Ok, Err}
 use Rattle.std.proofs.Math.Option.{Option, none, some}
 use Rattle.lex.specs.Tokens.{in_text, tokens}
 use Rattle.definition.specs.Definitions.{Parameter, Macro, macro}
 use Rattle.store.specs.Stores.{macro_text, macro_at, find}
-use Rattle.store.specs.declared.Found.{Found}
-use Rattle.store.specs.declared.Found.TheVariants.{At, Missing}
 use Rattle.pending.specs.Pending.{Pending, text_tokens, View, on_usage, view}
 use Rattle.replace.specs.Replacing.{Listed, barred, listed, list_for}
 
@@ -24,9 +22,9 @@ bar_of (barred n i) = some n
 bar_of (listed xs r) = none
 
 -- "13, 14 or 15": of a usage by where its macro stands, followed by ps
-abbrev pub found_fault : Found → List Macro → List Pending → Option ℕ
-found_fault (Missing i) ms ps = some 13
-found_fault (At i) ms ps = bar_of (list_for (formals_of (macro_at ms i)) ps)
+abbrev pub found_fault : Result ℕ ℕ → List Macro → List Pending → Option ℕ
+found_fault (Err i) ms ps = some 13
+found_fault (Ok i) ms ps = bar_of (list_for (formals_of (macro_at ms i)) ps)
 
 unfoldable pub usage_fault : List Macro → List ℕ → List Pending → Option ℕ
 usage_fault ms w ps = found_fault (find w ms) ms ps
@@ -39,9 +37,9 @@ unfoldable pub text_fault : List Macro → List Pending → Option ℕ
 text_fault ms [] = none
 text_fault ms (p ∷ ps) = or_next (fault_of (view p) ms ps) (text_fault ms ps)
 
-abbrev pub used_by : Found → List ℕ → List ℕ
-used_by (Missing i) r = r
-used_by (At i) r = i ∷ r
+abbrev pub used_by : Result ℕ ℕ → List ℕ → List ℕ
+used_by (Err i) r = r
+used_by (Ok i) r = i ∷ r
 
 abbrev pub uses_of : View → List Macro → List ℕ → List ℕ
 uses_of v ms r = on_usage v r (λ w. used_by (find w ms) r)

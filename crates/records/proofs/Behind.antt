@@ -16,8 +16,7 @@ use Rattle.store.specs.Buffers.{rows_from, padded}
 use Rattle.store.proofs.Entries.{length_rows, length_padded}
 use Rattle.genuine.specs.Layout.{is_four, is_blank, all_blank, all_zero, entry_fits, name_in, end_of, ends_there, left_from, left_in}
 use Rattle.genuine.specs.Leaving.{LeftBy}
-use Rattle.genuine.specs.declared.Checked.{Checked}
-use Rattle.genuine.specs.declared.Checked.TheVariants.{Left, Foreign}
+use Rattle.std.proofs.Common.{Option, Some, None}
 use Rattle.genuine.proofs.Accepting.{left_complete}
 use Rattle.records.specs.declared.Record.{Record}
 use Rattle.records.specs.Records.{is_none, all_none, row_of, rows_of}
@@ -45,25 +44,25 @@ none_blank (r ∷ rs) = ap (λ (c : Bool). is_none r && c) (none_blank rs)
 
 ends_blank : (n : ℕ) (b : List ℕ) (a : ℕ) (us vs : List (List ℕ)) → all_blank vs ≡ true → ends_there n b a (us ++ vs) ≡ ends_there n b a us
 unfolding ends_there
-ends_blank n b a us vs e = ap (λ (c : Bool). cond (c && all_zero (drop a b)) (Left n) Foreign) (blank_join us vs ∙ go (all_blank us) (all_blank vs) e)
+ends_blank n b a us vs e = ap (λ (c : Bool). cond (c && all_zero (drop a b)) (Some n) None) (blank_join us vs ∙ go (all_blank us) (all_blank vs) e)
   where
     go : (x y : Bool) → y ≡ true → (x && y) ≡ x
     go true y e = e
     go false y e = refl
 
-ends_foreign : (n : ℕ) (b : List ℕ) (a : ℕ) (us vs : List (List ℕ)) → all_blank vs ≡ false → ends_there n b a (us ++ vs) ≡ Foreign
+ends_foreign : (n : ℕ) (b : List ℕ) (a : ℕ) (us vs : List (List ℕ)) → all_blank vs ≡ false → ends_there n b a (us ++ vs) ≡ None
 unfolding ends_there
-ends_foreign n b a us vs e = ap (λ (c : Bool). cond (c && all_zero (drop a b)) (Left n) Foreign) (blank_join us vs ∙ go (all_blank us) (all_blank vs) e)
+ends_foreign n b a us vs e = ap (λ (c : Bool). cond (c && all_zero (drop a b)) (Some n) None) (blank_join us vs ∙ go (all_blank us) (all_blank vs) e)
   where
     go : (x y : Bool) → y ≡ false → (x && y) ≡ false
     go true y e = e
     go false y e = refl
 
-both : (c : Bool) {x x' y y' : Checked} → x ≡ x' → y ≡ y' → cond c x y ≡ cond c x' y'
+both : (c : Bool) {x x' y y' : Option ℕ} → x ≡ x' → y ≡ y' → cond c x y ≡ cond c x' y'
 both true e g = e
 both false e g = g
 
-same : (c : Bool) → ◌≡◌ {A = Checked} (cond c Foreign Foreign) Foreign
+same : (c : Bool) → ◌≡◌ {A = Option ℕ} (cond c None None) None
 same true = refl
 same false = refl
 
@@ -79,7 +78,7 @@ from_blank n b a w [] (v ∷ vs) e = first (blank_row v) refl
     is-blank false g = g
 
     first : (c : Bool) → blank_row v ≡ c
-        → cond c (ends_there n b a (v ∷ vs)) (cond (ltb n 256 && (is_four v && entry_fits b a w (record_of v))) (left_from (suc n) b (end_of (record_of v)) (name_in b (record_of v)) vs) Foreign) ≡ ends_there n b a []
+        → cond c (ends_there n b a (v ∷ vs)) (cond (ltb n 256 && (is_four v && entry_fits b a w (record_of v))) (left_from (suc n) b (end_of (record_of v)) (name_in b (record_of v)) vs) None) ≡ ends_there n b a []
     first true g = ends_blank n b a [] (v ∷ vs) e
     first false g = true_false (blank_row v) (is-blank (blank_row v) e) g
 from_blank n b a w (u ∷ us) vs e =
@@ -88,11 +87,11 @@ from_blank n b a w (u ∷ us) vs e =
 
 -- any other row behind 256 is foreign
 from_foreign : (n : ℕ) (b : List ℕ) (a : ℕ) (w : List ℕ) (us vs : List (List ℕ)) → 256 ≤ n + length us → all_blank vs ≡ false
-    → left_from n b a w (us ++ vs) ≡ Foreign
+    → left_from n b a w (us ++ vs) ≡ None
 unfolding left_from all_blank
 from_foreign n b a w [] [] l e = true_false true refl e
 from_foreign n b a w [] (v ∷ vs) l e =
-    both (blank_row v) (ends_foreign n b a [] (v ∷ vs) e) (ap (λ (c : Bool). cond (c && (is_four v && entry_fits b a w (record_of v))) (left_from (suc n) b (end_of (record_of v)) (name_in b (record_of v)) vs) Foreign) (le-ltb n 256 (omega arith)))
+    both (blank_row v) (ends_foreign n b a [] (v ∷ vs) e) (ap (λ (c : Bool). cond (c && (is_four v && entry_fits b a w (record_of v))) (left_from (suc n) b (end_of (record_of v)) (name_in b (record_of v)) vs) None) (le-ltb n 256 (omega arith)))
     ∙ same (blank_row v)
 from_foreign n b a w (u ∷ us) vs l e =
     both (blank_row u) (ends_foreign n b a (u ∷ us) vs e)
@@ -104,7 +103,7 @@ left_blank : (b : List ℕ) (us vs : List (List ℕ)) → all_blank vs ≡ true 
 unfolding left_in
 left_blank b us vs e = both (leb (length b) 65536) (from_blank 0 b 0 [] us vs e) refl
 
-left_foreign : (b : List ℕ) (us vs : List (List ℕ)) → 256 ≤ length us → all_blank vs ≡ false → left_in b (us ++ vs) ≡ Foreign
+left_foreign : (b : List ℕ) (us vs : List (List ℕ)) → 256 ≤ length us → all_blank vs ≡ false → left_in b (us ++ vs) ≡ None
 unfolding left_in
 left_foreign b us vs l e = both (leb (length b) 65536) (from_foreign 0 b 0 [] us vs (omega arith) e) refl ∙ same (leb (length b) 65536)
 
@@ -183,7 +182,7 @@ module _ (ys : List Record) where
           fit = k.fit;
         }
 
-    pub front_foreign : all_none rest ≡ true → left_in b (rows_of ys) ≡ Foreign → left_in b (rows_of front) ≡ Foreign
+    pub front_foreign : all_none rest ≡ true → left_in b (rows_of ys) ≡ None → left_in b (rows_of front) ≡ None
     front_foreign e g =
         sym (left_blank b (rows_of front) (rows_of rest) (none_blank rest ∙ e)) ∙ ap (left_in b) (sym rows_split) ∙ g
 
@@ -191,8 +190,8 @@ module _ (ys : List Record) where
     pub none_left : all_none rest ≡ false → (ms : List Macro) → LeftBy ms b (rows_of ys) → ⊥
     none_left e ms k =
         let l : 256 ≤ length (rows_of front) = rw front_long (few_above 256 (length ys) (rest_behind e) (omega arith)) in
-        let z : left_in b (rows_of ys) ≡ Foreign =
+        let z : left_in b (rows_of ys) ≡ None =
         ap (left_in b) rows_split ∙ left_foreign b (rows_of front) (rows_of rest) l (none_blank rest ∙ e) in
-        let q : Left (length ms) ≡ Foreign = sym (left_complete ms b (rows_of ys) k) ∙ z in
+        let q : Some (length ms) ≡ None = sym (left_complete ms b (rows_of ys) k) ∙ z in
         let o : ◌≡◌ {A = ℕ} 0 1 = cc in
         omega arith

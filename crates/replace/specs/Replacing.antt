@@ -1,14 +1,12 @@
 -- One replacement: a usage with its list gives way to its macro's text with the arguments in place.
 -- Assumes nothing.
-use Rattle.std.specs.Prelude.{ℕ, zero, suc, max, Bool, true, false, cond, ◌&&◌, List, [], ◌∷◌, ◌++◌, length}
+use Rattle.std.specs.Prelude.{ℕ, zero, suc, max, Bool, true, false, cond, ◌&&◌, List, [], ◌∷◌, ◌++◌, length, Result, Ok, Err}
 use Rattle.std.proofs.Math.Option.{Option, none, some}
 use Rattle.text.specs.Bytes.{same}
 use Rattle.lex.specs.Tokens.{in_file, in_text, tokens}
 use Rattle.definition.specs.Definitions.{Parameter, parameter, Macro, macro}
 use Rattle.sets.specs.Sets.{elem, insert_asc}
 use Rattle.store.specs.Stores.{macro_at, find}
-use Rattle.store.specs.declared.Found.{Found}
-use Rattle.store.specs.declared.Found.TheVariants.{At, Missing}
 use Rattle.pending.specs.Pending.{Pending, text_tokens, View, view, on_name}
 use Rattle.arguments.specs.Arguments.{Args, bad, args, seek}
 use Rattle.replace.specs.Tidying.{tidy_all}
@@ -88,9 +86,9 @@ abbrev pub replace_by : Macro → List ℕ → List Pending → Got
 replace_by (macro n fs t) set ps = with_list set fs t (list_for fs ps)
 
 -- 13, then 16: "A usage whose macro is in its set is recursive"
-abbrev pub replace_at : Found → List Macro → List ℕ → List Pending → Got
-replace_at (Missing i) ms set ps = refused 13 0
-replace_at (At i) ms set ps = cond (elem i set) (refused 16 0) (replace_by (macro_at ms i) (insert_asc i set) ps)
+abbrev pub replace_at : Result ℕ ℕ → List Macro → List ℕ → List Pending → Got
+replace_at (Err i) ms set ps = refused 13 0
+replace_at (Ok i) ms set ps = cond (elem i set) (refused 16 0) (replace_by (macro_at ms i) (insert_asc i set) ps)
 
 -- a usage of w with a set, followed by ps: 13, 16, 14 (or 2 to 6 in a file), 15
 unfoldable pub replace : List Macro → List ℕ → List ℕ → List Pending → Got

@@ -17,8 +17,7 @@ use Rattle.directive.proofs.Undefining.{form_of, undef-form}
 use Rattle.definition.specs.Definitions.{Macro}
 use Rattle.store.specs.Buffers.{Holds}
 use Rattle.store.specs.Stores.{find, undefine}
-use Rattle.store.specs.declared.Found.{Found}
-use Rattle.store.specs.declared.Found.TheVariants.{At as Present, Missing as Absent}
+use Rattle.std.proofs.Common.{Result, Ok as Present, Err as Absent}
 use Rattle.store.proofs.Ordering.{undefine_length, undefine_missing}
 use Rattle.settings.specs.declared.Settings.{Settings}
 use Rattle.writing.specs.declared.Spot.{Spot}
@@ -237,7 +236,7 @@ undef_all_on s t bs bs' rs rs' z y q h fs es kind limit tx mp fr cd a x ms f o k
 undefine_few : (w : List ℕ) (ms : List Macro) → length (undefine w ms) ≤ length ms
 undefine_few w ms = go (find w ms) refl
   where
-    go : (r : Found) → find w ms ≡ r → length (undefine w ms) ≤ length ms
+    go : (r : Result ℕ ℕ) → find w ms ≡ r → length (undefine w ms) ≤ length ms
     go (Present i) e = omega (arith, undefine_length w ms e)
     go (Absent i) e = omega (arith, ap length (undefine_missing w ms e))
 

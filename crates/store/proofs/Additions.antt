@@ -11,8 +11,7 @@ use Rattle.definition.specs.Definitions.{Macro}
 use Rattle.packed.specs.Splicing.{spliced}
 use Rattle.packed.specs.Records.{numbers_of, blank_record, moved_from}
 use Rattle.packed.specs.declared.Record.{Record}
-use Rattle.store.specs.declared.Defined.{Defined}
-use Rattle.store.specs.declared.Defined.TheVariants.{Done, NoRoom}
+use Rattle.std.proofs.Common.{Option, Some, None}
 use Rattle.store.specs.Stores.{macro_text, insert_at, encode, fits}
 use Rattle.store.specs.Buffers.{Holds, FormIs, Lent, Inserts, Defines, defined_by}
 use Rattle.store.proofs.Entries.{form_length, bytes_fit}
@@ -71,22 +70,22 @@ own_count : {ms : List Macro} {b : List ℕ} {r : List (List ℕ)} {n : ℕ} →
 own_count h = record { bytes = h.bytes; rows = h.rows; count = refl }
 
 module _ {recordsLent bytesLent : ℕ} {new ms : List Macro} {b : List ℕ} {r : List (List ℕ)} {n : ℕ} where
-  pub refused : fits recordsLent bytesLent new ≡ false → Holds ms b r n → Defines recordsLent bytesLent new ms b r NoRoom
+  pub refused : fits recordsLent bytesLent new ≡ false → Holds ms b r n → Defines recordsLent bytesLent new ms b r None
   refused e h =
       record {
         answer = sym (ap (λ (t : Bool). defined_by t new) e);
         holds = subst⁻¹ (λ (t : Bool). Holds (cond t new ms) b r (length (cond t new ms))) e (own_count h);
       }
 
-  pub done : fits recordsLent bytesLent new ≡ true → Holds new b r n → Defines recordsLent bytesLent new ms b r (Done n)
+  pub done : fits recordsLent bytesLent new ≡ true → Holds new b r n → Defines recordsLent bytesLent new ms b r (Some n)
   done e h =
       record {
-        answer = ap Done h.count ∙ sym (ap (λ (t : Bool). defined_by t new) e);
+        answer = ap Some h.count ∙ sym (ap (λ (t : Bool). defined_by t new) e);
         holds = subst⁻¹ (λ (t : Bool). Holds (cond t new ms) b r (length (cond t new ms))) e (own_count h);
       }
 
 -- d answers the definition of a new macro, its place i, which leaves b' and r' of the buffers b and r
-abbrev pub Answers : List ℕ → List (List ℕ) → ℕ → ℕ → List ℕ → ℕ → ℕ → List ℕ → List (List ℕ) → Defined → Type 0
+abbrev pub Answers : List ℕ → List (List ℕ) → ℕ → ℕ → List ℕ → ℕ → ℕ → List ℕ → List (List ℕ) → Option ℕ → Type 0
 Answers b r n i f name text b' r' d =
     (ms : List Macro) (m : Macro) → Holds ms b r n → FormIs m f name text → Defines (length r) (length b) (insert_at i m ms) ms b' r' d
 
@@ -100,15 +99,15 @@ module _ {b : List ℕ} {r : List (List ℕ)} {n i live : ℕ} {f : List ℕ} {n
       rw (x, y)
 
   -- the number of macros is full
-  pub no_number : 256 ≤ n → Answers b r n i f name text b r NoRoom
+  pub no_number : 256 ≤ n → Answers b r n i f name text b r None
   no_number o ms m h k = refused (fits_new h k ∙ rw (lt-leb (n + 1) 256 (omega arith))) h
 
   -- there is no record for it
-  pub no_record : n < 256 → length r ≤ n → Answers b r n i f name text b r NoRoom
+  pub no_record : n < 256 → length r ≤ n → Answers b r n i f name text b r None
   no_record o w ms m h k = refused (fits_new h k ∙ rw (le-leb (n + 1) 256 (omega arith), lt-leb (n + 1) (length r) (omega arith))) h
 
   -- there are too few bytes for it
-  pub no_bytes : n < 256 → n < length r → length b - live < length f → Answers b r n i f name text b r NoRoom
+  pub no_bytes : n < 256 → n < length r → length b - live < length f → Answers b r n i f name text b r None
   no_bytes o w x ms m h k =
       refused
       (fits_new h k
@@ -124,7 +123,7 @@ module _ {b : List ℕ} {r : List (List ℕ)} {n i live : ℕ} {f : List ℕ} {n
 
     pub put-in : {b' : List ℕ} {r' : List (List ℕ)}
         → ((ms : List Macro) (m : Macro) → Holds ms b r n → FormIs m f name text → Holds (insert_at i m ms) b' r' (n + 1))
-        → Answers b r n i f name text b' r' (Done (n + 1))
+        → Answers b r n i f name text b' r' (Some (n + 1))
     put-in e ms m h k =
         done
         (fits_new h k

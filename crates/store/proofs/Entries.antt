@@ -15,7 +15,7 @@ use Rattle.form.specs.Forms.{list_form, head_form, form_of, text_start}
 use Rattle.packed.specs.Records.{blank_record, record_of, RecordIs}
 use Rattle.packed.specs.declared.Record.{Record}
 use Rattle.store.specs.Stores.{macro_name, macro_text, no_macro, macro_at, place_by, find, find_from, encode}
-use Rattle.store.specs.declared.Found.TheVariants.{Missing}
+use Rattle.std.proofs.Common.{Err}
 use Rattle.store.specs.Buffers.{row_of, rows_from, padded, Holds}
 
 -- ---- the stored form
@@ -191,7 +191,7 @@ pub found_step : (w : List ℕ) (ms : List Macro) (i : ℕ) (o : Ordering) → i
 unfolding find_from
 found_step w ms i o h e = rw (drop-cons ms i no_macro, add-one, e)
 
-pub found_end : (w : List ℕ) (ms : List Macro) (i : ℕ) → length ms ≤ i → find_from i w (drop i ms) ≡ Missing i
+pub found_end : (w : List ℕ) (ms : List Macro) (i : ℕ) → length ms ≤ i → find_from i w (drop i ms) ≡ Err i
 unfolding find_from
 found_end w ms i h = rw (drop_of_length-le ms)
 

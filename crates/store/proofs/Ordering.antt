@@ -12,8 +12,7 @@ use Rattle.std.specs.declared.cmp.Ordering.TheVariants.{Less, Equal, Greater}
 use Rattle.std.specs.Ordering.{ordering_reverse, is_eq}
 use Rattle.text.proofs.Comparing.{order_turned, order_equal, order_trans}
 use Rattle.definition.specs.Definitions.{Macro}
-use Rattle.store.specs.declared.Found.{Found}
-use Rattle.store.specs.declared.Found.TheVariants.{At, Missing}
+use Rattle.std.proofs.Common.{Result, Ok, Err}
 use Rattle.store.specs.Stores.{macro_name, macro_at, Below, Ascending, place_by, find_from, find, insert_at, replace_at, remove_at, define_by, define, undefine_by, undefine}
 
 pub none_ascend : Ascending []
@@ -55,11 +54,11 @@ apart v w o e f q =
 
 -- ---- the place that `find` gives
 
-abbrev next : Found → Found
-next (At i) = At (suc i)
-next (Missing i) = Missing (suc i)
+abbrev next : Result ℕ ℕ → Result ℕ ℕ
+next (Ok i) = Ok (suc i)
+next (Err i) = Err (suc i)
 
-next_by : (o : Ordering) (k : ℕ) (f g : Found) → f ≡ next g → place_by o (suc k) f ≡ next (place_by o k g)
+next_by : (o : Ordering) (k : ℕ) (f g : Result ℕ ℕ) → f ≡ next g → place_by o (suc k) f ≡ next (place_by o k g)
 next_by Less k f g e = refl
 next_by Equal k f g e = refl
 next_by Greater k f g e = e
@@ -71,24 +70,24 @@ find_next k w (m ∷ ms) =
     next_by (order_of w (macro_name m)) k (find_from (suc (suc k)) w ms) (find_from (suc k) w ms) (find_next (suc k) w ms)
 
 -- the number that the name had or would have
-abbrev pub place_of : Found → ℕ
-place_of (At i) = i
-place_of (Missing i) = i
+abbrev pub place_of : Result ℕ ℕ → ℕ
+place_of (Ok i) = i
+place_of (Err i) = i
 
-abbrev Judged : Found → List ℕ → List Macro → Type 0
-Judged (At i) w ms = Stands w ms i
-Judged (Missing i) w ms = Belongs w ms i
+abbrev Judged : Result ℕ ℕ → List ℕ → List Macro → Type 0
+Judged (Ok i) w ms = Stands w ms i
+Judged (Err i) w ms = Belongs w ms i
 
-judged_past : (f : Found) (w : List ℕ) (m : Macro) (ms : List Macro) → order_of w (macro_name m) ≡ Greater → Judged f w ms
+judged_past : (f : Result ℕ ℕ) (w : List ℕ) (m : Macro) (ms : List Macro) → order_of w (macro_name m) ≡ Greater → Judged f w ms
     → Judged (next f) w (m ∷ ms)
-judged_past (At i) w m ms e j = (e, j)
-judged_past (Missing i) w m ms e j = (e, j)
+judged_past (Ok i) w m ms e j = (e, j)
+judged_past (Err i) w m ms e j = (e, j)
 
-judged-by : (o : Ordering) (f g : Found) (w : List ℕ) (m : Macro) (ms : List Macro) → order_of w (macro_name m) ≡ o → g ≡ next f
+judged-by : (o : Ordering) (f g : Result ℕ ℕ) (w : List ℕ) (m : Macro) (ms : List Macro) → order_of w (macro_name m) ≡ o → g ≡ next f
     → Judged f w ms → Judged (place_by o 0 g) w (m ∷ ms)
 judged-by Less f g w m ms e q j = e
 judged-by Equal f g w m ms e q j = e
-judged-by Greater f g w m ms e q j = subst (λ (h : Found). Judged h w (m ∷ ms)) (sym q) (judged_past f w m ms e j)
+judged-by Greater f g w m ms e q j = subst (λ (h : Result ℕ ℕ). Judged h w (m ∷ ms)) (sym q) (judged_past f w m ms e j)
 
 judged : (w : List ℕ) (ms : List Macro) → Judged (find w ms) w ms
 unfolding find_from
@@ -96,29 +95,29 @@ judged w [] = tt
 judged w (m ∷ ms) =
     judged-by (order_of w (macro_name m)) (find_from 0 w ms) (find_from 1 w ms) w m ms refl (find_next 0 w ms) (judged w ms)
 
-pub stands : (w : List ℕ) (ms : List Macro) {i : ℕ} → find w ms ≡ At i → Stands w ms i
-stands w ms e = subst (λ (f : Found). Judged f w ms) e (judged w ms)
+pub stands : (w : List ℕ) (ms : List Macro) {i : ℕ} → find w ms ≡ Ok i → Stands w ms i
+stands w ms e = subst (λ (f : Result ℕ ℕ). Judged f w ms) e (judged w ms)
 
-pub belongs : (w : List ℕ) (ms : List Macro) {i : ℕ} → find w ms ≡ Missing i → Belongs w ms i
-belongs w ms e = subst (λ (f : Found). Judged f w ms) e (judged w ms)
+pub belongs : (w : List ℕ) (ms : List Macro) {i : ℕ} → find w ms ≡ Err i → Belongs w ms i
+belongs w ms e = subst (λ (f : Result ℕ ℕ). Judged f w ms) e (judged w ms)
 
-find_past : (w : List ℕ) (m : Macro) (ms : List Macro) (f : Found) → order_of w (macro_name m) ≡ Greater → find w ms ≡ f
+find_past : (w : List ℕ) (m : Macro) (ms : List Macro) (f : Result ℕ ℕ) → order_of w (macro_name m) ≡ Greater → find w ms ≡ f
     → find w (m ∷ ms) ≡ next f
 unfolding find_from
 find_past w m ms f e q = rw e (find_next 0 w ms ∙ ap next q)
 
-pub find_stands : (w : List ℕ) (ms : List Macro) (i : ℕ) → Stands w ms i → find w ms ≡ At i
+pub find_stands : (w : List ℕ) (ms : List Macro) (i : ℕ) → Stands w ms i → find w ms ≡ Ok i
 unfolding find_from
 find_stands w [] i s = absurd s
 find_stands w (m ∷ ms) zero s = rw s
-find_stands w (m ∷ ms) (suc i) s = find_past w m ms (At i) s.0 (find_stands w ms i s.1)
+find_stands w (m ∷ ms) (suc i) s = find_past w m ms (Ok i) s.0 (find_stands w ms i s.1)
 
-pub find_belongs : (w : List ℕ) (ms : List Macro) (i : ℕ) → Belongs w ms i → find w ms ≡ Missing i
+pub find_belongs : (w : List ℕ) (ms : List Macro) (i : ℕ) → Belongs w ms i → find w ms ≡ Err i
 unfolding find_from
 find_belongs w [] zero b = refl
 find_belongs w [] (suc i) b = absurd b
 find_belongs w (m ∷ ms) zero b = rw b
-find_belongs w (m ∷ ms) (suc i) b = find_past w m ms (Missing i) b.0 (find_belongs w ms i b.1)
+find_belongs w (m ∷ ms) (suc i) b = find_past w m ms (Err i) b.0 (find_belongs w ms i b.1)
 
 -- ---- a name is found exactly if it is defined
 
@@ -161,21 +160,21 @@ named_stands w (m ∷ ms) (suc k) s h q =
     let l : order_of (macro_name m) w ≡ Less = subst (λ (v : List ℕ). order_of (macro_name m) v ≡ Less) q (below_all (macro_name m) ms k s.0 s.1 (le_of_suc-le-suc h)) in
     (order_back (macro_name m) w l, named_stands w ms k s.1 (le_of_suc-le-suc h) q)
 
-pub find_at_name : (w : List ℕ) (ms : List Macro) {i : ℕ} → find w ms ≡ At i → macro_name (macro_at ms i) ≡ w
+pub find_at_name : (w : List ℕ) (ms : List Macro) {i : ℕ} → find w ms ≡ Ok i → macro_name (macro_at ms i) ≡ w
 find_at_name w ms {i} e = stands_name w ms i (stands w ms e)
 
-pub find_at_lt : (w : List ℕ) (ms : List Macro) {i : ℕ} → find w ms ≡ At i → i < length ms
+pub find_at_lt : (w : List ℕ) (ms : List Macro) {i : ℕ} → find w ms ≡ Ok i → i < length ms
 find_at_lt w ms {i} e = stands_lt w ms i (stands w ms e)
 
-pub find_missing_none : (w : List ℕ) (ms : List Macro) {i : ℕ} → Ascending ms → find w ms ≡ Missing i
+pub find_missing_none : (w : List ℕ) (ms : List Macro) {i : ℕ} → Ascending ms → find w ms ≡ Err i
     → (k : ℕ) → k < length ms → macro_name (macro_at ms k) ≡ w → ⊥
 find_missing_none w ms {i} s e k h q = belongs_none w ms i k s (belongs w ms e) h q
 
-pub find_missing_le : (w : List ℕ) (ms : List Macro) {i : ℕ} → find w ms ≡ Missing i → i ≤ length ms
+pub find_missing_le : (w : List ℕ) (ms : List Macro) {i : ℕ} → find w ms ≡ Err i → i ≤ length ms
 find_missing_le w ms {i} e = belongs_le w ms i (belongs w ms e)
 
 -- the number of a macro is its place in byte order: what has the name is what is found
-pub find_named : (w : List ℕ) (ms : List Macro) (k : ℕ) → Ascending ms → k < length ms → macro_name (macro_at ms k) ≡ w → find w ms ≡ At k
+pub find_named : (w : List ℕ) (ms : List Macro) (k : ℕ) → Ascending ms → k < length ms → macro_name (macro_at ms k) ≡ w → find w ms ≡ Ok k
 find_named w ms k s h q = find_stands w ms k (named_stands w ms k s h q)
 
 -- ---- a definition
@@ -222,17 +221,17 @@ module _ (m : Macro) where
   insert_length (x ∷ ms) zero = refl
   insert_length (x ∷ ms) (suc i) = ap suc (insert_length ms i)
 
-  define-by : (f : Found) (ms : List Macro) → Ascending ms → Judged f (macro_name m) ms → Ascending (define_by f m ms)
-  define-by (At i) ms s j = replace_ascends ms i s j
-  define-by (Missing i) ms s j = insert_ascends ms i s j
+  define-by : (f : Result ℕ ℕ) (ms : List Macro) → Ascending ms → Judged f (macro_name m) ms → Ascending (define_by f m ms)
+  define-by (Ok i) ms s j = replace_ascends ms i s j
+  define-by (Err i) ms s j = insert_ascends ms i s j
 
   pub define_ascends : (ms : List Macro) → Ascending ms → Ascending (define m ms)
   unfolding define
   define_ascends ms s = define-by (find (macro_name m) ms) ms s (judged (macro_name m) ms)
 
-  pub define_at : (ms : List Macro) (f : Found) → find (macro_name m) ms ≡ f → define m ms ≡ define_by f m ms
+  pub define_at : (ms : List Macro) (f : Result ℕ ℕ) → find (macro_name m) ms ≡ f → define m ms ≡ define_by f m ms
   unfolding define
-  define_at ms f e = ap (λ (g : Found). define_by g m ms) e
+  define_at ms f e = ap (λ (g : Result ℕ ℕ). define_by g m ms) e
 
   put_at : (ms rest : List Macro) (i : ℕ) → i ≤ length ms → macro_at (take i ms ++ (m ∷ rest)) i ≡ m
   put_at [] rest zero h = refl
@@ -240,11 +239,11 @@ module _ (m : Macro) where
   put_at (x ∷ ms) rest zero h = refl
   put_at (x ∷ ms) rest (suc i) h = put_at ms rest i (le_of_suc-le-suc h)
 
-  put_by : (f : Found) (ms : List Macro) → Judged f (macro_name m) ms → macro_at (define_by f m ms) (place_of f) ≡ m
-  put_by (At i) ms j =
+  put_by : (f : Result ℕ ℕ) (ms : List Macro) → Judged f (macro_name m) ms → macro_at (define_by f m ms) (place_of f) ≡ m
+  put_by (Ok i) ms j =
       let h = stands_lt (macro_name m) ms i j in
       put_at ms (drop (suc i) ms) i (omega arith)
-  put_by (Missing i) ms j = put_at ms (drop i ms) i (belongs_le (macro_name m) ms i j)
+  put_by (Err i) ms j = put_at ms (drop i ms) i (belongs_le (macro_name m) ms i j)
 
   -- what is defined stands at the place of its name
   pub define_macro : (ms : List Macro) → macro_at (define m ms) (place_of (find (macro_name m) ms)) ≡ m
@@ -252,19 +251,19 @@ module _ (m : Macro) where
   define_macro ms = put_by (find (macro_name m) ms) ms (judged (macro_name m) ms)
 
   -- a redefinition keeps the number
-  pub redefine_at : (ms : List Macro) {i : ℕ} → find (macro_name m) ms ≡ At i → find (macro_name m) (define m ms) ≡ At i
+  pub redefine_at : (ms : List Macro) {i : ℕ} → find (macro_name m) ms ≡ Ok i → find (macro_name m) (define m ms) ≡ Ok i
   redefine_at ms {i} e =
-      ap (find (macro_name m)) (define_at ms (At i) e) ∙ find_stands (macro_name m) (replace_at i m ms) i (replace_stands ms i (stands (macro_name m) ms e))
+      ap (find (macro_name m)) (define_at ms (Ok i) e) ∙ find_stands (macro_name m) (replace_at i m ms) i (replace_stands ms i (stands (macro_name m) ms e))
 
-  pub redefine_length : (ms : List Macro) {i : ℕ} → find (macro_name m) ms ≡ At i → length (define m ms) ≡ length ms
-  redefine_length ms {i} e = ap length (define_at ms (At i) e) ∙ replace_length ms i (find_at_lt (macro_name m) ms e)
+  pub redefine_length : (ms : List Macro) {i : ℕ} → find (macro_name m) ms ≡ Ok i → length (define m ms) ≡ length ms
+  redefine_length ms {i} e = ap length (define_at ms (Ok i) e) ∙ replace_length ms i (find_at_lt (macro_name m) ms e)
 
-  pub define_new_at : (ms : List Macro) {i : ℕ} → find (macro_name m) ms ≡ Missing i → find (macro_name m) (define m ms) ≡ At i
+  pub define_new_at : (ms : List Macro) {i : ℕ} → find (macro_name m) ms ≡ Err i → find (macro_name m) (define m ms) ≡ Ok i
   define_new_at ms {i} e =
-      ap (find (macro_name m)) (define_at ms (Missing i) e) ∙ find_stands (macro_name m) (insert_at i m ms) i (insert_stands ms i (belongs (macro_name m) ms e))
+      ap (find (macro_name m)) (define_at ms (Err i) e) ∙ find_stands (macro_name m) (insert_at i m ms) i (insert_stands ms i (belongs (macro_name m) ms e))
 
-  pub define_new_length : (ms : List Macro) {i : ℕ} → find (macro_name m) ms ≡ Missing i → length (define m ms) ≡ suc (length ms)
-  define_new_length ms {i} e = ap length (define_at ms (Missing i) e) ∙ insert_length ms i
+  pub define_new_length : (ms : List Macro) {i : ℕ} → find (macro_name m) ms ≡ Err i → length (define m ms) ≡ suc (length ms)
+  define_new_length ms {i} e = ap length (define_at ms (Err i) e) ∙ insert_length ms i
 
 -- ---- `undef`
 
@@ -285,9 +284,9 @@ remove_length [] i h = absurd (not-suc-le-zero h)
 remove_length (x ∷ ms) zero h = refl
 remove_length (x ∷ ms) (suc i) h = ap suc (remove_length ms i (le_of_suc-le-suc h))
 
-undefine-by : (f : Found) (ms : List Macro) → Ascending ms → Ascending (undefine_by f ms)
-undefine-by (At i) ms s = remove_ascends ms i s
-undefine-by (Missing i) ms s = s
+undefine-by : (f : Result ℕ ℕ) (ms : List Macro) → Ascending ms → Ascending (undefine_by f ms)
+undefine-by (Ok i) ms s = remove_ascends ms i s
+undefine-by (Err i) ms s = s
 
 module _ (w : List ℕ) where
   below_belongs : (ms : List Macro) → Below w ms → Belongs w ms 0
@@ -304,22 +303,22 @@ module _ (w : List ℕ) where
   unfolding undefine
   undefine_ascends ms s = undefine-by (find w ms) ms s
 
-  undefine_at : (ms : List Macro) (f : Found) → find w ms ≡ f → undefine w ms ≡ undefine_by f ms
+  undefine_at : (ms : List Macro) (f : Result ℕ ℕ) → find w ms ≡ f → undefine w ms ≡ undefine_by f ms
   unfolding undefine
-  undefine_at ms f e = ap (λ (g : Found). undefine_by g ms) e
+  undefine_at ms f e = ap (λ (g : Result ℕ ℕ). undefine_by g ms) e
 
-  pub undefine_length : (ms : List Macro) {i : ℕ} → find w ms ≡ At i → suc (length (undefine w ms)) ≡ length ms
-  undefine_length ms {i} e = ap (λ (l : List Macro). suc (length l)) (undefine_at ms (At i) e) ∙ remove_length ms i (find_at_lt w ms e)
+  pub undefine_length : (ms : List Macro) {i : ℕ} → find w ms ≡ Ok i → suc (length (undefine w ms)) ≡ length ms
+  undefine_length ms {i} e = ap (λ (l : List Macro). suc (length l)) (undefine_at ms (Ok i) e) ∙ remove_length ms i (find_at_lt w ms e)
 
   -- "`undef` of an unknown name does nothing"
-  pub undefine_missing : (ms : List Macro) {i : ℕ} → find w ms ≡ Missing i → undefine w ms ≡ ms
-  undefine_missing ms {i} e = undefine_at ms (Missing i) e
+  pub undefine_missing : (ms : List Macro) {i : ℕ} → find w ms ≡ Err i → undefine w ms ≡ ms
+  undefine_missing ms {i} e = undefine_at ms (Err i) e
 
-  gone_by : (f : Found) (ms : List Macro) → Ascending ms → Judged f w ms → find w (undefine_by f ms) ≡ Missing (place_of f)
-  gone_by (At i) ms s j = find_belongs w (remove_at i ms) i (remove_belongs ms i s j)
-  gone_by (Missing i) ms s j = find_belongs w ms i j
+  gone_by : (f : Result ℕ ℕ) (ms : List Macro) → Ascending ms → Judged f w ms → find w (undefine_by f ms) ≡ Err (place_of f)
+  gone_by (Ok i) ms s j = find_belongs w (remove_at i ms) i (remove_belongs ms i s j)
+  gone_by (Err i) ms s j = find_belongs w ms i j
 
-  pub undefine_gone : (ms : List Macro) → Ascending ms → find w (undefine w ms) ≡ Missing (place_of (find w ms))
+  pub undefine_gone : (ms : List Macro) → Ascending ms → find w (undefine w ms) ≡ Err (place_of (find w ms))
   unfolding undefine
   undefine_gone ms s = gone_by (find w ms) ms s (judged w ms)
 

@@ -11,8 +11,7 @@ use Rattle.form.specs.Forms.{form_of, text_start}
 use Rattle.packed.specs.Splicing.{spliced}
 use Rattle.packed.specs.Records.{blank_record, RecordIs, moved_from}
 use Rattle.packed.specs.declared.Record.{Record}
-use Rattle.store.specs.declared.Found.{Found}
-use Rattle.store.specs.declared.Found.TheVariants.{At, Missing}
+use Rattle.std.proofs.Common.{Result, Ok, Err}
 use Rattle.store.specs.Stores.{macro_text, macro_at, remove_at, encode, find, undefine_by, undefine}
 use Rattle.store.specs.Buffers.{Holds}
 use Rattle.store.proofs.Entries.{start, form_length, bytes_fit, Told, told, entry}
@@ -59,16 +58,16 @@ taken_out {ms} {b} {r} {n} {i} {live} {q} {b'} {r₁} {r'} h l s k e eb er₁ er
 -- ---- by name
 
 -- what the search answered, of buffers that hold ms
-module _ (w : List ℕ) {ms : List Macro} {b : List ℕ} {r : List (List ℕ)} {n : ℕ} {f : Found} (h : Holds ms b r n) (e : f ≡ find w ms) where
-  pub found_below : (i : ℕ) → f ≡ At i → i < n
+module _ (w : List ℕ) {ms : List Macro} {b : List ℕ} {r : List (List ℕ)} {n : ℕ} {f : Result ℕ ℕ} (h : Holds ms b r n) (e : f ≡ find w ms) where
+  pub found_below : (i : ℕ) → f ≡ Ok i → i < n
   found_below i a = omega (arith, find_at_lt w ms (sym e ∙ a), h.count)
 
-  undefined_by : (g : Found) → f ≡ g → undefine w ms ≡ undefine_by g ms
+  undefined_by : (g : Result ℕ ℕ) → f ≡ g → undefine w ms ≡ undefine_by g ms
   unfolding undefine
-  undefined_by g a = ap (λ (x : Found). undefine_by x ms) (sym e ∙ a)
+  undefined_by g a = ap (λ (x : Result ℕ ℕ). undefine_by x ms) (sym e ∙ a)
 
-  pub undefined_at : (i : ℕ) → f ≡ At i → {b' : List ℕ} {r' : List (List ℕ)} → Holds (remove_at i ms) b' r' (n - 1) → Holds (undefine w ms) b' r' (n - 1)
-  undefined_at i a {b'} {r'} o = subst (λ (x : List Macro). Holds x b' r' (n - 1)) (sym (undefined_by (At i) a)) o
+  pub undefined_at : (i : ℕ) → f ≡ Ok i → {b' : List ℕ} {r' : List (List ℕ)} → Holds (remove_at i ms) b' r' (n - 1) → Holds (undefine w ms) b' r' (n - 1)
+  undefined_at i a {b'} {r'} o = subst (λ (x : List Macro). Holds x b' r' (n - 1)) (sym (undefined_by (Ok i) a)) o
 
-  pub undefined_missing : (i : ℕ) → f ≡ Missing i → Holds (undefine w ms) b r n
-  undefined_missing i a = subst (λ (x : List Macro). Holds x b r n) (sym (undefined_by (Missing i) a)) h
+  pub undefined_missing : (i : ℕ) → f ≡ Err i → Holds (undefine w ms) b r n
+  undefined_missing i a = subst (λ (x : List Macro). Holds x b r n) (sym (undefined_by (Err i) a)) h

@@ -1,6 +1,5 @@
 -- A macro defined anew: what the code reads of the old form, the room for the new one, and the answer. Assumes nothing.
 use mathlib.Core.Path.{◌≡◌, refl, sym, ap, ◌∙◌, subst}
-use mathlib.Core.Bool.{Bool, true, false, cond}
 use mathlib.Core.List.{List}
 use Prim.Native.Nat.{ℕ, ◌+◌, ◌-◌, ◌≤◌, ◌<◌}
 use native.Mathlib.Omega.{arith}
@@ -13,12 +12,9 @@ use Rattle.form.specs.Forms.{form_of, text_start}
 use Rattle.packed.specs.Splicing.{spliced}
 use Rattle.packed.specs.Records.{numbers_of, blank_record, RecordIs, moved_from}
 use Rattle.packed.specs.declared.Record.{Record}
-use Rattle.store.specs.declared.Found.{Found}
-use Rattle.store.specs.declared.Found.TheVariants.{At, Missing}
-use Rattle.store.specs.declared.Defined.{Defined}
-use Rattle.store.specs.declared.Defined.TheVariants.{Done, NoRoom}
+use Rattle.std.proofs.Common.{Result, Err, Option, Some, None}
 use Rattle.store.specs.Stores.{macro_name, macro_text, macro_at, find, encode, fits, replace_at, define_by, define}
-use Rattle.store.specs.Buffers.{Holds, FormIs, Lent, Replaces, defined_by, Defines}
+use Rattle.store.specs.Buffers.{Holds, FormIs, Lent, Replaces, Defines}
 use Rattle.store.proofs.Entries.{form_length, form_name, bytes_fit, rows_fit}
 use Rattle.store.proofs.Places.{place}
 use Rattle.store.proofs.Additions.{Starts, live_is, refused, done}
@@ -112,24 +108,24 @@ module _ {b : List ℕ} {r : List (List ℕ)} {n i : ℕ} {f : List ℕ} {x t : 
         encode_replace_long i ms (omega (arith, h.count)) m
         ∙ omega (arith, live_is e h, old_long h l k, ap length g.form_is)
 
-    pub redefine_refused : length b - (live - (q.text + q.size - q.start)) < length f → Defines (length r) (length b) (replace_at i m ms) ms b r NoRoom
+    pub redefine_refused : length b - (live - (q.text + q.size - q.start)) < length f → Defines (length r) (length b) (replace_at i m ms) ms b r None
     redefine_refused u =
         refused (replace_few ∙ lt-leb (length (encode (replace_at i m ms))) (length b) (omega (arith, u, replace_long, kept_fits h l k e))) h
 
     pub redefine_done : {b' : List ℕ} {r' : List (List ℕ)} → length f ≤ length b - (live - (q.text + q.size - q.start))
-        → Holds (replace_at i m ms) b' r' n → Defines (length r) (length b) (replace_at i m ms) ms b' r' (Done n)
+        → Holds (replace_at i m ms) b' r' n → Defines (length r) (length b) (replace_at i m ms) ms b' r' (Some n)
     redefine_done u h' =
         done (replace_few ∙ le-leb (length (encode (replace_at i m ms))) (length b) (omega (arith, u, replace_long, kept_fits h l k e))) h'
 
 -- ---- by name
 
-module _ {ms : List Macro} {b : List ℕ} {r : List (List ℕ)} {n : ℕ} (h : Holds ms b r n) (w : List ℕ) {o : Found} (e : o ≡ find w ms) {i : ℕ} where
-  pub missing_place : o ≡ Missing i → i ≤ n
+module _ {ms : List Macro} {b : List ℕ} {r : List (List ℕ)} {n : ℕ} (h : Holds ms b r n) (w : List ℕ) {o : Result ℕ ℕ} (e : o ≡ find w ms) {i : ℕ} where
+  pub missing_place : o ≡ Err i → i ≤ n
   missing_place q = omega (arith, find_missing_le w ms (sym e ∙ q), h.count)
 
 -- the definition by the place found for the front of its form
-pub define_found : {m : Macro} {ms : List Macro} {f w : List ℕ} {x t : ℕ} {o : Found} → FormIs m f x t → w ≡ part f 0 x → o ≡ find w ms → (s : Found) → o ≡ s
-    → {rl bl : ℕ} {b : List ℕ} {r : List (List ℕ)} {a : Defined} → Defines rl bl (define_by s m ms) ms b r a → Defines rl bl (define m ms) ms b r a
+pub define_found : {m : Macro} {ms : List Macro} {f w : List ℕ} {x t : ℕ} {o : Result ℕ ℕ} → FormIs m f x t → w ≡ part f 0 x → o ≡ find w ms → (s : Result ℕ ℕ) → o ≡ s
+    → {rl bl : ℕ} {b : List ℕ} {r : List (List ℕ)} {a : Option ℕ} → Defines rl bl (define_by s m ms) ms b r a → Defines rl bl (define m ms) ms b r a
 define_found {m} {ms} {f} {w} {x} g ew eo s es {rl} {bl} {b} {r} {a} d =
     let z : part f 0 x ≡ take x f = let y : x - 0 ≡ x = omega arith in rw y in
     let v : w ≡ macro_name m = ew ∙ z ∙ ap (take x) g.form_is ∙ ap (λ (j : ℕ). take j (form_of m)) g.name_is ∙ form_name m in

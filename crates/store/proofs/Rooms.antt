@@ -3,12 +3,12 @@
 use mathlib.Core.Path.{◌≡◌, refl, sym, ap, ◌∙◌}
 use mathlib.Core.List.{List, [], ◌∷◌, ◌++◌, append_assoc}
 use Prim.Native.Nat.{ℕ, suc, ◌+◌, ◌-◌, ◌≤◌, ◌<◌}
-use native.Mathlib.Nat.{zero-add, add-zero, mod-eq_of_lt}
+use native.Mathlib.Nat.{zero-add, mod-eq_of_lt}
 use native.Mathlib.Omega.{arith}
 use lib.ListN.{length, take, drop, set, replicate, length-append, length-drop, length-replicate, take-append-drop}
 use lib.Seq.{split_at, length-take-le, set_at, append_snoc}
-use Rattle.definition.specs.Definitions.{Macro, macro}
-use Rattle.form.specs.Forms.{head_form, form_of, text_start}
+use Rattle.definition.specs.Definitions.{Macro}
+use Rattle.form.specs.Forms.{form_of, text_start}
 use Rattle.packed.specs.Splicing.{spliced}
 use Rattle.packed.specs.Records.{cut, numbers_of, blank_record, record_of, moved_by, moved_in, moved_from}
 use Rattle.packed.specs.declared.Record.{Record}

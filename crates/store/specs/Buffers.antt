@@ -1,11 +1,9 @@
 -- The lent records and bytes as functions of the macros stored: "bytes and records past the last are zero".
 -- Assumes nothing.
-use Rattle.std.specs.Prelude.{ℕ, ◌+◌, ◌-◌, ◌<◌, ◌≤◌, ◌≡◌, Bool, cond, List, [], ◌∷◌, ◌++◌, length, replicate}
+use Rattle.std.specs.Prelude.{ℕ, ◌+◌, ◌-◌, ◌<◌, ◌≤◌, ◌≡◌, Bool, cond, List, [], ◌∷◌, ◌++◌, length, replicate, Option, Some, None}
 use Rattle.definition.specs.Definitions.{Macro}
 use Rattle.form.specs.Forms.{form_of, text_start}
 use Rattle.packed.specs.Records.{blank_record}
-use Rattle.store.specs.declared.Defined.{Defined}
-use Rattle.store.specs.declared.Defined.TheVariants.{Done, NoRoom}
 use Rattle.store.specs.Stores.{macro_name, macro_text, macro_at, encode, fits}
 
 -- "Records, in the same order: start, name length, text start, text length"; the form starts at a
@@ -59,10 +57,10 @@ pub record Replaces (b : List ℕ) (r : List (List ℕ)) (n i : ℕ) (form : Lis
   pub room : length (encode lent.stored.macros) - length (form_of (macro_at lent.stored.macros i)) + length form ≤ length b
 
 -- the answer to a definition that makes the macros ms: their number, or that there is no room
-abbrev pub defined_by : Bool → List Macro → Defined
-defined_by fit ms = cond fit (Done (length ms)) NoRoom
+abbrev pub defined_by : Bool → List Macro → Option ℕ
+defined_by fit ms = cond fit (Some (length ms)) None
 
 -- a definition that would make `new` of the macros ms was carried out, or refused for want of room, which changes nothing
-pub record Defines (recordsLent bytesLent : ℕ) (new ms : List Macro) (b : List ℕ) (r : List (List ℕ)) (a : Defined) : Type 0 where
+pub record Defines (recordsLent bytesLent : ℕ) (new ms : List Macro) (b : List ℕ) (r : List (List ℕ)) (a : Option ℕ) : Type 0 where
   pub answer : a ≡ defined_by (fits recordsLent bytesLent new) new
   pub holds : Holds (cond (fits recordsLent bytesLent new) new ms) b r (length (cond (fits recordsLent bytesLent new) new ms))

@@ -14,20 +14,6 @@ use packed::{Record, clear, clear_records, insert, read, remove, replace, shift,
 use std::cmp::Ordering;
 use text::{compare, part_of};
 
-// Where a name stands among the macros, or where it belongs.
-#[derive(Clone, Copy)]
-pub enum Found {
-    At(usize),
-    Missing(usize),
-}
-
-// What a definition answers: the number of macros then, or that there is no room (12).
-#[derive(Clone, Copy)]
-pub enum Defined {
-    Done(usize),
-    NoRoom,
-}
-
 // Where the form of macro `i` starts, or where the last one ends.
 pub fn start_of(records: &[[u32; 4]], count: usize, i: usize) -> usize
     requires { i ≤ count }
@@ -49,27 +35,19 @@ fn order_at(bytes: &[u8], records: &[[u32; 4]], count: usize, i: usize, w: &[u8]
     compare(w, part_of(bytes, r.start, r.start + r.name))
 }
 
-// The place of a name among the macros.
-pub fn find(bytes: &[u8], records: &[[u32; 4]], count: usize, w: &[u8]) -> Found
+// Where a name stands among the macros, or where it belongs. Each name is compared in turn: a binary search needs the macros
+// in ascending order, which the contract does not ask of them.
+pub fn find(bytes: &[u8], records: &[[u32; 4]], count: usize, w: &[u8]) -> Result<usize, usize>
     ensures { (ms : List Macro) → Holds ms bytes.now records.now count → result ≡ findName w.now ms }
 {
-    let mut i = 0;
-    while i < count {
-        let o = order_at(bytes, records, count, i, w);
-        match o {
-            Ordering::Less => {
-                return Found::Missing(i);
-            }
-            Ordering::Equal => {
-                return Found::At(i);
-            }
-            Ordering::Greater => {
-                i += 1;
-                continue;
-            }
+    for i in 0..count {
+        match order_at(bytes, records, count, i, w) {
+            Ordering::Less => return Err(i),
+            Ordering::Equal => return Ok(i),
+            Ordering::Greater => {}
         }
     }
-    Found::Missing(i)
+    Err(count)
 }
 
 // The stored form of macro `i`, a part of the bytes.
@@ -99,13 +77,12 @@ pub fn undefine(bytes: &mut [u8], records: &mut [[u32; 4]], count: usize, w: &[u
     requires { (length bytes.old ≤ 65536) × Stored bytes.old records.old count }
     ensures { (ms : List Macro) → Holds ms bytes.old records.old count → Holds (undefineName w.now ms) bytes.new records.new result }
 {
-    let f = find(bytes, records, count, w);
-    match f {
-        Found::At(i) => {
+    match find(bytes, records, count, w) {
+        Ok(i) => {
             remove_at(bytes, records, count, i);
             count - 1
         }
-        Found::Missing(_) => count,
+        Err(_) => count,
     }
 }
 
@@ -165,7 +142,7 @@ fn replace_at(
     shift(records, i + 1, count, n, size);
 }
 
-// Defines a macro of a new name, which belongs at `i`.
+// Defines a macro of a new name, which belongs at `i`: the number of macros then, or `None` where there is no room (12).
 fn define_new(
     bytes: &mut [u8],
     records: &mut [[u32; 4]],
@@ -174,25 +151,25 @@ fn define_new(
     form: &[u8],
     name: usize,
     text: usize,
-) -> Defined
+) -> Option<usize>
     requires { (i ≤ count) × Lent bytes.old records.old count form.now name text }
     ensures { (ms : List Macro) (m : Macro) → Holds ms bytes.old records.old count → FormIs m form.now name text → Defines (length records.old) (length bytes.old) (insert_at i m ms) ms bytes.new records.new result }
 {
     let live = start_of(records, count, count);
     if 256 <= count {
-        return Defined::NoRoom;
+        return None;
     }
     if records.len() <= count {
-        return Defined::NoRoom;
+        return None;
     }
     if bytes.len() - live < form.len() {
-        return Defined::NoRoom;
+        return None;
     }
     insert_at(bytes, records, count, i, form, name, text);
-    Defined::Done(count + 1)
+    Some(count + 1)
 }
 
-// Defines the macro at `i` anew.
+// Defines the macro at `i` anew, which takes no number more; `None` where there is no room (12).
 fn redefine(
     bytes: &mut [u8],
     records: &mut [[u32; 4]],
@@ -201,7 +178,7 @@ fn redefine(
     form: &[u8],
     name: usize,
     text: usize,
-) -> Defined
+) -> Option<usize>
     requires { (i < count) × Lent bytes.old records.old count form.now name text }
     ensures { (ms : List Macro) (m : Macro) → Holds ms bytes.old records.old count → FormIs m form.now name text → Defines (length records.old) (length bytes.old) (replace_at i m ms) ms bytes.new records.new result }
 {
@@ -209,13 +186,14 @@ fn redefine(
     let old = read(records, i);
     let kept = live - (old.text + old.size - old.start);
     if bytes.len() - kept < form.len() {
-        return Defined::NoRoom;
+        return None;
     }
     replace_at(bytes, records, count, i, form, name, text);
-    Defined::Done(count)
+    Some(count)
 }
 
-// Defines a macro by its stored form, with its name's length and where its text starts.
+// Defines a macro by its stored form, with its name's length and where its text starts: the number of macros then, or
+// `None` where there is no room (12).
 pub fn define(
     bytes: &mut [u8],
     records: &mut [[u32; 4]],
@@ -223,14 +201,13 @@ pub fn define(
     form: &[u8],
     name: usize,
     text: usize,
-) -> Defined
+) -> Option<usize>
     requires { Lent bytes.old records.old count form.now name text }
     ensures { (ms : List Macro) (m : Macro) → Holds ms bytes.old records.old count → FormIs m form.now name text → Defines (length records.old) (length bytes.old) (defineMacro m ms) ms bytes.new records.new result }
 {
-    let f = find(bytes, records, count, part_of(form, 0, name));
-    match f {
-        Found::At(i) => redefine(bytes, records, count, i, form, name, text),
-        Found::Missing(i) => define_new(bytes, records, count, i, form, name, text),
+    match find(bytes, records, count, part_of(form, 0, name)) {
+        Ok(i) => redefine(bytes, records, count, i, form, name, text),
+        Err(i) => define_new(bytes, records, count, i, form, name, text),
     }
 }
 

@@ -20,8 +20,7 @@ use Rattle.lex.proofs.Listing.{by_tokens}
 use Rattle.names.specs.Names.{is_directive, bars_text}
 use Rattle.definition.specs.Definitions.{Parameter, parameter, Macro, macro}
 use Rattle.store.specs.Stores.{macro_at, find}
-use Rattle.store.specs.declared.Found.{Found}
-use Rattle.store.specs.declared.Found.TheVariants.{At, Missing}
+use Rattle.std.proofs.Common.{Result, Ok, Err}
 use Rattle.macros.proofs.Each.{Each, each_append}
 use Rattle.sets.specs.Sets.{elem, insert_asc}
 use Rattle.pending.specs.Pending.{Pending, file_tokens, file_from, text_tokens, View, blanks, calls, names, opens, closes, commas, bars, plain, byte_view, is_spacing, is_comment, is_blank, kind_view, view}
@@ -307,10 +306,10 @@ module _ (s : List ℕ) where
     replace-by : (m : Macro) (set : List ℕ) (ps : List Pending) → AllIn R ps → Gets (replace_by m set ps)
     replace-by (macro n fs t) set ps a = with-list set fs t (list_for fs ps) (list_in fs ps a)
 
-    replace-at : (o : Found) (ms : List Macro) (set : List ℕ) (ps : List Pending) → AllIn R ps → Gets (replace_at o ms set ps)
+    replace-at : (o : Result ℕ ℕ) (ms : List Macro) (set : List ℕ) (ps : List Pending) → AllIn R ps → Gets (replace_at o ms set ps)
     unfolding GotIn
-    replace-at (Missing k) ms set ps a = refused_at 13 (omega arith) (omega arith)
-    replace-at (At k) ms set ps a =
+    replace-at (Err k) ms set ps a = refused_at 13 (omega arith) (omega arith)
+    replace-at (Ok k) ms set ps a =
         by_test Gets (elem k set) (λ e. refused_at 16 (omega arith) (omega arith))
         (λ e. replace-by (macro_at ms k) (insert_asc k set) ps a)
 

@@ -2,8 +2,8 @@
 -- Assumes nothing.
 use Rattle.conditions.proofs.is_defined.Goals as goal
 
-pub returns-in-At : goal.returns-in-At
-returns-in-At c ms h = simp (← c.find-f.ensures ms h, c.in-At.is)
+pub returns-in-Ok : goal.returns-in-Ok
+returns-in-Ok c ms h = simp (← c.find-f.ensures ms h, c.in-Ok.is)
 
-pub returns-in-Missing : goal.returns-in-Missing
-returns-in-Missing c ms h = simp (← c.find-f.ensures ms h, c.in-Missing.is)
+pub returns-in-Err : goal.returns-in-Err
+returns-in-Err c ms h = simp (← c.find-f.ensures ms h, c.in-Err.is)

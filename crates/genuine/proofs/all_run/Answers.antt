@@ -1,13 +1,13 @@
-use mathlib.Core.Path.{◌∙◌}
-use Rattle.genuine.proofs.Testing.{each_no, each_next, each_end, each_run, no, yes}
-use Rattle.std.proofs.lemmas.Bool.{not_from_true, not_from_false}
+-- `genuine::all_run` meets its contract: each byte of the part is asked in turn.
+-- Assumes nothing.
+use Rattle.std.proofs.Common.{drop, rules, tests, ◌∙◌}
+use Rattle.std.proofs.lemmas.Iterator.{YieldsList-from_slice}
+use Rattle.std.proofs.lemmas.Iterator.Search.{all_from_yields_List}
+use Rattle.lex.specs.Classes.{is_run}
+use Rattle.genuine.proofs.Testing.{each_list, each_run, part_on}
 use Rattle.genuine.proofs.all_run.Goals as goal
 
-pub returns-then-not-is_run : goal.returns-then-not-is_run
-returns-then-not-is_run c = each_no each_run _ _ 0 c.loop-i-test.true (no c.is_run.ensures (not_from_false _ c.if-not-is_run.true)) ∙ c.loop-i.invariant
-
-pub loop-i-preserved : goal.loop-i-preserved
-loop-i-preserved c = each_next each_run _ _ 0 c.loop-i-test.true (yes c.is_run.ensures (not_from_true _ c.if-not-is_run.false)) ∙ c.loop-i.invariant
-
 pub returns : goal.returns
-returns c = each_end each_run _ _ c.loop-i-test.false ∙ c.loop-i.invariant
+returns c =
+    all_from_yields_List (is_run 36) _ _ _ c.all.ensures.ran (YieldsList-from_slice (drop c.args.at c.args.w.now) (part_on c.args.w.now c.args.at c.iter.ensures.rest c.part_of.ensures)) (λ x b q k. search (rules, tests))
+    ∙ each_list each_run (drop c.args.at c.args.w.now)

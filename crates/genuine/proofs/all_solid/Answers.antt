@@ -1,13 +1,12 @@
-use mathlib.Core.Path.{◌∙◌}
-use lib.ListN.{get_or}
-use Rattle.genuine.proofs.Testing.{each_no, each_next, each_end, each_solid, not_solid, is-solid}
+-- `genuine::all_solid` meets its contract: the test is asked of each byte in turn.
+-- Assumes nothing.
+use Rattle.std.proofs.Common.{rules, tests, ◌∙◌}
+use Rattle.std.proofs.lemmas.Iterator.{YieldsList-from_slice}
+use Rattle.std.proofs.lemmas.Iterator.Search.{all_from_yields_List}
+use Rattle.genuine.proofs.Testing.{each_list, each_solid, is_solid}
 use Rattle.genuine.proofs.all_solid.Goals as goal
 
-pub returns-then-w-i : goal.returns-then-w-i
-returns-then-w-i c = each_no each_solid _ _ 0 c.loop-i-test.true (not_solid (get_or c.args.w.now c.loop-i.i 0) c.if-w-i.true) ∙ c.loop-i.invariant
-
-pub loop-i-preserved : goal.loop-i-preserved
-loop-i-preserved c = each_next each_solid _ _ 0 c.loop-i-test.true (is-solid (get_or c.args.w.now c.loop-i.i 0) c.if-w-i.false) ∙ c.loop-i.invariant
-
 pub returns : goal.returns
-returns c = each_end each_solid _ _ c.loop-i-test.false ∙ c.loop-i.invariant
+returns c =
+    all_from_yields_List is_solid _ _ _ c.all.ensures.ran (YieldsList-from_slice c.args.w.now cc) (λ x b q k. search (rules, tests))
+    ∙ each_list each_solid c.args.w.now

@@ -1,13 +1,12 @@
-use mathlib.Core.Path.{◌∙◌}
-use Rattle.genuine.proofs.Testing.{each_no, each_next, each_end, each_zero}
-use borrow.Author.Tests.{eq-eqb, ne_eqb}
+-- `genuine::all_zero` meets its contract: each byte of the part is compared in turn.
+-- Assumes nothing.
+use Rattle.std.proofs.Common.{ℕ, eqb, drop, rules, tests, ◌∙◌}
+use Rattle.std.proofs.lemmas.Iterator.{YieldsList-from_slice}
+use Rattle.std.proofs.lemmas.Iterator.Search.{all_from_yields_List}
+use Rattle.genuine.proofs.Testing.{each_list, each_zero, part_on}
 use Rattle.genuine.proofs.all_zero.Goals as goal
 
-pub returns-then-b-i-ne0 : goal.returns-then-b-i-ne0
-returns-then-b-i-ne0 c = each_no each_zero _ _ 0 c.loop-i-test.true (ne_eqb _ _ c.if-b-i-ne0.true) ∙ c.loop-i.invariant
-
-pub loop-i-preserved : goal.loop-i-preserved
-loop-i-preserved c = each_next each_zero _ _ 0 c.loop-i-test.true (eq-eqb _ _ c.if-b-i-ne0.false) ∙ c.loop-i.invariant
-
 pub returns : goal.returns
-returns c = each_end each_zero _ _ c.loop-i-test.false ∙ c.loop-i.invariant
+returns c =
+    all_from_yields_List (λ (x : ℕ). eqb x 0) _ _ _ c.all.ensures.ran (YieldsList-from_slice (drop c.args.at c.args.b.now) (part_on c.args.b.now c.args.at c.iter.ensures.rest c.part_of.ensures)) (λ x b q k. search (rules, tests))
+    ∙ each_list each_zero (drop c.args.at c.args.b.now)

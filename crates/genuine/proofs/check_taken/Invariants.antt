@@ -2,7 +2,6 @@
 -- Assumes nothing.
 use mathlib.Core.List.{[]}
 use mathlib.Core.Path.{◌≡◌}
-use Prim.Native.Nat.{◌-◌}
 use lib.ListN.{length, drop}
 use Rattle.text.specs.Bytes.{part}
 use Rattle.genuine.specs.Layout.{left_from}
@@ -10,6 +9,3 @@ use Rattle.genuine.proofs.check_taken.Given as goal
 
 abbrev pub invariant-loop-i : goal.invariant-loop-i
 invariant-loop-i l = (left_from l.i l.bytes l.end (part l.bytes l.from l.to) (drop l.i l.records) ≡ left_from 0 l.bytes 0 [] l.records) × (length l.name ≡ length l.initial.name) × (length l.stack ≡ length l.initial.stack)
-
-abbrev pub decreases-loop-i : goal.decreases-loop-i
-decreases-loop-i l = length l.records - l.i

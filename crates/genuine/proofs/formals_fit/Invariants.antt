@@ -6,8 +6,5 @@ use lib.ListN.{length}
 use Rattle.genuine.specs.Layout.{formals_fit}
 use Rattle.genuine.proofs.formals_fit.Given as goal
 
-abbrev pub invariant-loop-c : goal.invariant-loop-c
-invariant-loop-c l = (formals_fit l.c l.b l.i l.end ≡ formals_fit l.count l.b l.at l.end) × (l.i ≤ 65536) × (l.c ≤ 16) × (length l.name ≡ length l.initial.name) × (length l.stack ≡ length l.initial.stack)
-
-abbrev pub decreases-loop-c : goal.decreases-loop-c
-decreases-loop-c l = l.c
+abbrev pub invariant-loop-more : goal.invariant-loop-more
+invariant-loop-more l = (formals_fit l.more l.b l.i l.end ≡ formals_fit l.count l.b l.at l.end) × (l.i ≤ 65536) × (l.more ≤ 16) × (length l.name ≡ length l.initial.name) × (length l.stack ≡ length l.initial.stack)

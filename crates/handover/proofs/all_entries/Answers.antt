@@ -1,14 +1,13 @@
-use mathlib.Core.Path.{sym, ◌∙◌}
-use mathlib.Core.List.{[]}
-use Rattle.handover.proofs.Walking.{entries_out, entries_none, entries_more}
-use Rattle.std.proofs.lemmas.Bool.{not_from_true, not_from_false}
+-- `handover::all_entries` meets its contract: each entry is asked in turn.
+-- Assumes nothing.
+use Rattle.std.proofs.Common.{rules, tests, ◌∙◌}
+use Rattle.std.proofs.lemmas.Iterator.{YieldsList-from_slice}
+use Rattle.std.proofs.lemmas.Iterator.Search.{all_from_yields_List}
+use Rattle.handover.specs.Entries.{is_entry}
+use Rattle.handover.proofs.Walking.{entries_all}
 use Rattle.handover.proofs.all_entries.Goals as goal
 
-pub returns-then-not-is_entry : goal.returns-then-not-is_entry
-returns-then-not-is_entry c = let a = c.args in sym (entries_none a.s.now a.table.now c.loop-i.i [] c.loop-i-test.true c.is_entry.ensures (not_from_false _ c.if-not-is_entry.true)) ∙ c.loop-i.invariant
-
-pub loop-i-preserved : goal.loop-i-preserved
-loop-i-preserved c = let a = c.args in sym (entries_more a.s.now a.table.now c.loop-i.i [] c.loop-i-test.true c.is_entry.ensures (not_from_true _ c.if-not-is_entry.false)) ∙ c.loop-i.invariant
-
 pub returns : goal.returns
-returns c = let a = c.args in sym (entries_out a.s.now a.table.now c.loop-i.i c.loop-i-test.false) ∙ c.loop-i.invariant
+returns c =
+    all_from_yields_List (is_entry c.args.s.now) _ _ _ c.all.ensures.ran (YieldsList-from_slice c.args.table.now cc) (λ x b q k. search (rules, tests))
+    ∙ entries_all c.args.s.now c.args.table.now

@@ -1,19 +1,17 @@
-use mathlib.Core.Path.{sym, ◌∙◌}
-use Rattle.handover.proofs.Walking.{name_unsized, name_sized, bytes_out, bytes_none, bytes_more}
-use Rattle.std.proofs.lemmas.Bool.{not_from_true, not_from_false}
+-- `handover::is_file_name` meets its contract: the length decides, or each byte is asked in turn.
+-- Assumes nothing.
+use Rattle.std.proofs.Common.{rules, tests, ◌∙◌}
+use Rattle.std.proofs.lemmas.Iterator.{YieldsList-from_slice}
+use Rattle.std.proofs.lemmas.Iterator.Search.{all_from_yields_List}
+use Rattle.handover.specs.Entries.{is_name_byte}
+use Rattle.handover.proofs.Walking.{name_unsized, name_sized, bytes_all}
 use Rattle.handover.proofs.is_file_name.Goals as goal
 
 pub returns-then-w : goal.returns-then-w
 returns-then-w c = name_unsized c.args.w.now c.if-w.true
 
-pub loop-i-init : goal.loop-i-init
-loop-i-init c = name_sized c.args.w.now c.if-w.false
-
-pub returns-then-not-is_name_byte : goal.returns-then-not-is_name_byte
-returns-then-not-is_name_byte c = sym (bytes_none c.args.w.now c.loop-i.i c.loop-i-test.true c.is_name_byte.ensures (not_from_false _ c.if-not-is_name_byte.true)) ∙ c.loop-i.invariant
-
-pub loop-i-preserved : goal.loop-i-preserved
-loop-i-preserved c = sym (bytes_more c.args.w.now c.loop-i.i c.loop-i-test.true c.is_name_byte.ensures (not_from_true _ c.if-not-is_name_byte.false)) ∙ c.loop-i.invariant
-
 pub returns : goal.returns
-returns c = sym (bytes_out c.args.w.now c.loop-i.i c.loop-i-test.false) ∙ c.loop-i.invariant
+returns c =
+    all_from_yields_List is_name_byte _ _ _ c.all.ensures.ran (YieldsList-from_slice c.args.w.now cc) (λ x b q k. search (rules, tests))
+    ∙ bytes_all c.args.w.now
+    ∙ name_sized c.args.w.now c.if-w.false

@@ -1,12 +1,16 @@
-use mathlib.Core.Path.{sym, ◌∙◌}
-use Rattle.macros.proofs.Ranges.{among_out, among_hit, among_miss}
+-- `macros::named_among` meets its contract: the name of each range from `at` on is compared in turn.
+-- Assumes nothing.
+use Rattle.std.proofs.Common.{ℕ, List, drop, rules, tests, ◌∙◌}
+use Rattle.std.proofs.lemmas.Iterator.{YieldsList-from_slice}
+use Rattle.std.proofs.lemmas.Iterator.Adapters.{YieldsList-from_skip}
+use Rattle.std.proofs.lemmas.Iterator.Search.{any_from_yields_List}
+use Rattle.text.specs.Bytes.{same}
+use Rattle.macros.specs.Looking.{plainly}
+use Rattle.macros.specs.Starting.{range_of}
+use Rattle.macros.proofs.Ranges.{among_any}
 use Rattle.macros.proofs.named_among.Goals as goal
 
-pub returns-then-same : goal.returns-then-same
-returns-then-same c = let a = c.args in sym (among_hit a.s.now a.ranges.now c.loop-i.i c.loop-i-test.true c.range_of.ensures.0 c.plain_name.ensures a.w.now c.same.ensures c.if-same.true) ∙ c.loop-i.invariant
-
-pub loop-i-preserved : goal.loop-i-preserved
-loop-i-preserved c = let a = c.args in sym (among_miss a.s.now a.ranges.now c.loop-i.i c.loop-i-test.true c.range_of.ensures.0 c.plain_name.ensures a.w.now c.same.ensures c.if-same.false) ∙ c.loop-i.invariant
-
 pub returns : goal.returns
-returns c = let a = c.args in sym (among_out a.s.now a.ranges.now c.loop-i.i a.w.now c.loop-i-test.false) ∙ c.loop-i.invariant
+returns c =
+    any_from_yields_List (λ (v : List ℕ). same c.args.w.now (plainly (range_of c.args.s.now v))) _ _ _ c.any.ensures.ran (YieldsList-from_skip c.args.at (YieldsList-from_slice c.args.ranges.now cc) cc) (λ x b q k. search (rules, tests))
+    ∙ among_any c.args.s.now c.args.w.now (drop c.args.at c.args.ranges.now)

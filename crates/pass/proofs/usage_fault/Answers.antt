@@ -12,18 +12,18 @@ pub returns-in-List : goal.returns-in-List
 returns-in-List c ms h =
     let a = c.args in
     let f = items_from a.b.now a.b.now a.list.now a.n false in
-    usage_good a.w.now (f a.at) h (c.find-f.ensures ms h) _ c.in-At.is c.requires.0.bytes_small c.read.ensures f (last_of a.b.now a.n false)
+    usage_good a.w.now (f a.at) h (c.find-f.ensures ms h) _ c.in-Ok.is c.requires.0.bytes_small c.read.ensures f (last_of a.b.now a.n false)
     c.accept-r.new.ranges c.accept-r.result c.accept-r.ensures _ _ c.in-List.is
 
 pub returns-in-Refused : goal.returns-in-Refused
 returns-in-Refused c ms h =
     let a = c.args in
     let f = items_from a.b.now a.b.now a.list.now a.n false in
-    usage_bad a.w.now (f a.at) h (c.find-f.ensures ms h) _ c.in-At.is c.requires.0.bytes_small c.read.ensures f (last_of a.b.now a.n false)
+    usage_bad a.w.now (f a.at) h (c.find-f.ensures ms h) _ c.in-Ok.is c.requires.0.bytes_small c.read.ensures f (last_of a.b.now a.n false)
     c.accept-r.new.ranges c.accept-r.result c.accept-r.ensures _ _ c.in-Refused.is
 
-pub returns-in-Missing : goal.returns-in-Missing
-returns-in-Missing c ms h =
+pub returns-in-Err : goal.returns-in-Err
+returns-in-Err c ms h =
     let a = c.args in
     let f = items_from a.b.now a.b.now a.list.now a.n false in
-    usage_missing a.w.now (f a.at) h (c.find-f.ensures ms h) _ c.in-Missing.is
+    usage_missing a.w.now (f a.at) h (c.find-f.ensures ms h) _ c.in-Err.is

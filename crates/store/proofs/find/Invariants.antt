@@ -1,6 +1,5 @@
 -- `store::find` meets its contract. The loop's invariant: the search from macro `i` on finds what the whole search finds.
 -- Assumes nothing.
-use Prim.Native.Nat.{◌≤◌, ◌-◌}
 use mathlib.Core.Path.{◌≡◌}
 use mathlib.Core.List.{List}
 use lib.ListN.{drop}
@@ -11,8 +10,4 @@ use Rattle.store.specs.Buffers.{Holds}
 use Rattle.store.proofs.find.Given as goal
 
 abbrev pub invariant-loop-i : goal.invariant-loop-i
-invariant-loop-i l =
-    (l.i ≤ l.count) × ((ms : List Macro) → Holds ms l.bytes l.records l.count → find_from l.i l.w (drop l.i ms) ≡ findName l.w ms)
-
-abbrev pub decreases-loop-i : goal.decreases-loop-i
-decreases-loop-i l = l.count - l.i
+invariant-loop-i l = (ms : List Macro) → Holds ms l.bytes l.records l.count → find_from l.i l.w (drop l.i ms) ≡ findName l.w ms

@@ -6,13 +6,13 @@ use Rattle.store.proofs.undefine.Goals as goal
 
 pub remove_at-requires : goal.remove_at-requires
 remove_at-requires c =
-    (found_below c.args.w.now c.requires.1.holds (c.find-f.ensures _ c.requires.1.holds) _ c.in-At.is, c.requires.0, c.requires.1)
+    (found_below c.args.w.now c.requires.1.holds (c.find.ensures _ c.requires.1.holds) _ c.in-Ok.is, c.requires.0, c.requires.1)
 
 pub overflow_sub-result : goal.overflow_sub-result
-overflow_sub-result c = omega (arith, found_below c.args.w.now c.requires.1.holds (c.find-f.ensures _ c.requires.1.holds) _ c.in-At.is)
+overflow_sub-result c = omega (arith, found_below c.args.w.now c.requires.1.holds (c.find.ensures _ c.requires.1.holds) _ c.in-Ok.is)
 
-pub returns-in-At : goal.returns-in-At
-returns-in-At c ms h = undefined_at c.args.w.now h (c.find-f.ensures ms h) _ c.in-At.is (c.remove_at.ensures ms h)
+pub returns-in-Ok : goal.returns-in-Ok
+returns-in-Ok c ms h = undefined_at c.args.w.now h (c.find.ensures ms h) _ c.in-Ok.is (c.remove_at.ensures ms h)
 
-pub returns-in-Missing : goal.returns-in-Missing
-returns-in-Missing c ms h = undefined_missing c.args.w.now h (c.find-f.ensures ms h) _ c.in-Missing.is
+pub returns-in-Err : goal.returns-in-Err
+returns-in-Err c ms h = undefined_missing c.args.w.now h (c.find.ensures ms h) _ c.in-Err.is

@@ -12,7 +12,7 @@ ghost use Rattle.steps.specs.Standing.{MacrosBy};
 use crate::stage::{Stage, Step, behind, refuse};
 use definition::{Judged, judge_definition};
 use directive::{MacroName, undef_at};
-use lex::Token;
+use lex::{Fault, Token};
 use macros::{ReadIn, define_at};
 use store::{undefine, undefine_all};
 use text::part_of;
@@ -44,24 +44,21 @@ pub fn define(
     }
 }
 
-// Where a definition ends, good or bad; or what bars it, with the place.
-#[derive(Clone, Copy)]
-pub enum Hidden {
-    To(usize),
-    Barred(usize, usize),
-}
-
-// The definition whose word ends at `at`: the lent bytes have room for the brackets of any file.
-fn hidden_at(s: &[u8], at: usize, name: &mut [u8], stack: &mut [u8]) -> Hidden
+// Where the definition ends whose word ends at `at`, good or bad; or what bars it. The lent bytes have room for the brackets of
+// any file.
+fn hidden_at(s: &[u8], at: usize, name: &mut [u8], stack: &mut [u8]) -> Result<usize, Fault>
     requires { (length s.now ≤ 65535) × (1025 ≤ length name.old) × (16384 ≤ length stack.old) }
     ensures { result ≡ hidden_by (definition_at s.now at) }
 {
     let r = judge_definition(s, at, name, stack);
     match r {
-        Judged::Barred(n, p) => Hidden::Barred(n, p),
-        Judged::Bad(e) => Hidden::To(e),
-        Judged::Good(e) => Hidden::To(e),
-        Judged::Short => Hidden::To(at),
+        Judged::Barred(n, p) => Err(Fault {
+            number: n,
+            place: p,
+        }),
+        Judged::Bad(e) => Ok(e),
+        Judged::Good(e) => Ok(e),
+        Judged::Short => Ok(at),
     }
 }
 
@@ -72,8 +69,8 @@ pub fn hide(s: &[u8], t: Token, name: &mut [u8], stack: &mut [u8], z: Stage) -> 
 {
     let r = hidden_at(s, t.end, name, stack);
     match r {
-        Hidden::Barred(n, p) => refuse(z, n, p),
-        Hidden::To(e) => Step::On(behind(z, s, e)),
+        Err(f) => refuse(z, f.number, f.place),
+        Ok(e) => Step::On(behind(z, s, e)),
     }
 }
 

@@ -7,7 +7,7 @@ ghost use Rattle.steps.specs.Standing.{FramesBy, LeftBy, LeavesBy};
 
 use crate::stage::{Stage, Step, behind, entered, refuse, with_spot};
 use copying::Cursor;
-use including::{Entered, include};
+use including::include;
 use lex::Token;
 use places::place_of;
 use writing::{Wrote, write_whole};
@@ -27,13 +27,13 @@ pub fn enter(
     let c = z.cursor;
     let r = include(files, table, s, t, c.other, z.depth);
     match r {
-        Entered::Into(i, e) => {
+        Ok((i, e)) => {
             let y = behind(z, s, e);
             let k = y.cursor;
             frames[z.depth - 1] = [z.file, k.at, k.line];
             Step::On(entered(z, i))
         }
-        Entered::Refused(n, p) => refuse(z, n, p),
+        Err(f) => refuse(z, f.number, f.place),
     }
 }
 

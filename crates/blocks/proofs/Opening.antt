@@ -1,7 +1,7 @@
 -- The open conditionals of a lent buffer: the first n of it alone make them, and each function's change of them.
 -- Assumes nothing.
 use Prim.Native.Nat.{ℕ, zero, suc, ◌+◌, ◌<◌, ◌≤◌}
-use mathlib.Core.Bool.{Bool, true, not, ◌&&◌, ◌||◌}
+use mathlib.Core.Bool.{Bool, true, false, not, ◌&&◌, ◌||◌}
 use mathlib.Core.Option.{none}
 use mathlib.Core.List.{List, [], ◌∷◌}
 use mathlib.Core.Path.{◌≡◌, refl, sym, ap}
@@ -10,10 +10,16 @@ use native.Mathlib.Omega.{arith}
 use lib.ListN.{length, get_or, set, length-set}
 use lib.Seq.{get_or-set_same, get_or-set_other}
 use Rattle.std.specs.Prelude.{Some}
+use Rattle.std.specs.Int.{from_bool}
 use borrow.Author.Tests.{eq-eqb, ne_eqb, le-leb, lt-leb}
 use Rattle.blocks.specs.declared.Blocks.{Blocks}
 use Rattle.blocks.specs.Blocks.{open_block, next_block, close_block}
 use Rattle.blocks.specs.Stacks.{blank_block, flag, conditional_of, open_in, BlocksIn, ChangedBy}
+
+-- a truth value as it is stored
+pub flag_from : {n : ℕ} (b : Bool) → n ≡ from_bool b → flag n ≡ b
+flag_from true e = rw e
+flag_from false e = rw e
 
 -- as many as are said to be open
 pub open_length : (w : List (List ℕ)) (n : ℕ) → length (open_in w n) ≡ n

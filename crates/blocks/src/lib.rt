@@ -12,12 +12,6 @@ pub struct Blocks {
     pub taken: bool,
 }
 
-fn bit(b: bool) -> usize
-    ensures { flag result ≡ b }
-{
-    if b { 1 } else { 0 }
-}
-
 // `ifdef` or `ifndef` at a place, whose condition is `b`; none where 32 are open.
 pub fn open_block(
     w: &mut [[usize; 6]],
@@ -34,7 +28,14 @@ pub fn open_block(
         return None;
     }
     let active = z.taken & b;
-    w[n] = [file, byte, bit(z.taken), bit(active), bit(b), 0];
+    w[n] = [
+        file,
+        byte,
+        usize::from(z.taken),
+        usize::from(active),
+        usize::from(b),
+        0,
+    ];
     Some(Blocks {
         open: n + 1,
         taken: active,
@@ -59,9 +60,9 @@ pub fn next_block(w: &mut [[usize; 6]], z: Blocks, b: bool, last: bool) -> Optio
         v[0],
         v[1],
         v[2],
-        bit(active),
-        bit((v[4] == 1) | b),
-        bit(last),
+        usize::from(active),
+        usize::from((v[4] == 1) | b),
+        usize::from(last),
     ];
     Some(Blocks {
         open: n,

@@ -7,7 +7,7 @@ ghost use Rattle.definition.specs.Definitions.{definition_at};
 ghost use Rattle.definition.specs.Answers.{judged_of};
 ghost use Rattle.keywords.specs.Tables.{Tables};
 ghost use Rattle.conditions.specs.Grammar.{is_defined, condition_at};
-ghost use Rattle.classify.specs.Words.{by_form, by_definition, by_condition, takes_condition, past_directive, past_grave, word_of, bit, words_of};
+ghost use Rattle.classify.specs.Words.{by_form, by_definition, by_condition, takes_condition, past_directive, past_grave, word_of, words_of};
 ghost use Rattle.classify.specs.Answer.{refused_line, outcome_of, Listed, Answered};
 
 use conditions::condition_at;
@@ -65,26 +65,16 @@ fn judge_deep(s: &[u8], at: usize, name: &mut [u8]) -> Judged
     judge_definition(s, at, name, &mut stack)
 }
 
-// With the lent bytes for brackets first, then with more. `tries` is 2 at first.
-fn judge(s: &[u8], at: usize, name: &mut [u8], stack: &mut [u8], tries: usize) -> Judged
+// With the lent bytes for brackets first, then with more.
+fn judge(s: &[u8], at: usize, name: &mut [u8], stack: &mut [u8]) -> Judged
     requires { (length s.now ≤ 16777215) × (1025 ≤ length name.old) }
     ensures { result ≡ judged_of (definition_at s.now at) }
 {
-    if tries == 0 {
-        return judge_deep(s, at, name);
-    }
-    if tries == 1 {
-        let r = judge_definition(s, at, name, stack);
-        let Judged::Short = r else {
-            return r;
-        };
-        return judge(s, at, name, stack, 0);
-    }
-    let r = judge(s, at, name, stack, 1);
+    let r = judge_definition(s, at, name, stack);
     let Judged::Short = r else {
         return r;
     };
-    judge(s, at, name, stack, 0)
+    judge_deep(s, at, name)
 }
 
 // Past the definition whose word ends at `at`.
@@ -98,7 +88,7 @@ fn past_definition(
     requires { (length s.now ≤ 16777215) × (1025 ≤ length name.old) }
     ensures { result ≡ by_definition set at (definition_at s.now at) }
 {
-    let r = judge(s, at, name, stack, 2);
+    let r = judge(s, at, name, stack);
     match r {
         Judged::Barred(n, p) => Err(Fault {
             number: n,
@@ -182,12 +172,6 @@ fn past_grave(
     past_directive(d, s, t, start, set, name, stack)
 }
 
-fn bit_of(b: bool) -> u32
-    ensures { result ≡ bit b }
-{
-    if b { 1 } else { 0 }
-}
-
 // The name `t` as a word, by the three keyword tables.
 fn word_of(
     s: &[u8],
@@ -201,7 +185,7 @@ fn word_of(
     ensures { result ≡ word_of s.now set t }
 {
     let reserved = is_reserved(bytes, starts, firsts, part_of(s, t.from, t.end), set);
-    [t.at as u32, (t.end - t.at) as u32, bit_of(reserved)]
+    [t.at as u32, (t.end - t.at) as u32, u32::from(reserved)]
 }
 
 fn make_ended(number: usize, place: usize, words: usize) -> Ended

@@ -33,11 +33,10 @@ pub fn define(
 {
     let r = define_at(s, t.end, bytes, records, z.macros, name, work, form);
     match r {
-        ReadIn::Done(n, e) => {
-            let mut y = behind(z, s, e);
-            y.macros = n;
-            Step::On(y)
-        }
+        ReadIn::Done(n, e) => Step::On(Stage {
+            macros: n,
+            ..behind(z, s, e)
+        }),
         ReadIn::Barred(n, p) => refuse(z, n, p),
         ReadIn::Bad => refuse(z, 11, t.at),
         ReadIn::NoRoom => refuse(z, 12, t.at),
@@ -83,9 +82,10 @@ pub fn undef(s: &[u8], t: Token, bytes: &mut [u8], records: &mut [[u32; 4]], z: 
     match f {
         MacroName::Named(a, e) => {
             let n = undefine(bytes, records, z.macros, part_of(s, a, e));
-            let mut y = behind(z, s, e);
-            y.macros = n;
-            Step::On(y)
+            Step::On(Stage {
+                macros: n,
+                ..behind(z, s, e)
+            })
         }
         MacroName::Unnamed => refuse(z, 7, t.at),
         MacroName::Barred(n, p) => refuse(z, n, p),
@@ -98,7 +98,8 @@ pub fn undef_all(s: &[u8], t: Token, bytes: &mut [u8], records: &mut [[u32; 4]],
     ensures { MacrosBy result s.now t bytes.old bytes.new records.old records.new z (λ h. undefines [] t.end) }
 {
     undefine_all(bytes, records, z.macros);
-    let mut y = behind(z, s, t.end);
-    y.macros = 0;
-    Step::On(y)
+    Step::On(Stage {
+        macros: 0,
+        ..behind(z, s, t.end)
+    })
 }

@@ -43,21 +43,21 @@ fn leave(frames: &[[usize; 3]], z: Stage) -> Step
     ensures { LeftBy result frames.now z }
 {
     let n = z.depth - 1;
-    let mut y = z;
-    y.depth = n;
     if n == 0 {
-        return Step::On(y);
+        return Step::On(Stage { depth: n, ..z });
     }
     let v = frames[n - 1];
-    y.file = v[0];
-    let c = Cursor {
-        at: v[1],
-        line: v[2],
-        other: true,
-        comment: false,
-    };
-    y.cursor = c;
-    Step::On(y)
+    Step::On(Stage {
+        depth: n,
+        file: v[0],
+        cursor: Cursor {
+            at: v[1],
+            line: v[2],
+            other: true,
+            comment: false,
+        },
+        ..z
+    })
 }
 
 // The end of a file: a newline is written behind a copied `//` comment.

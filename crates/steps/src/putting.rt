@@ -40,11 +40,10 @@ pub fn keep_on(
         z.spot,
     );
     match r {
-        Ok((x, y, e)) => {
-            let mut k = behind(with_spot(z, y), s, e);
-            k.settings = x;
-            Step::On(k)
-        }
+        Ok((x, y, e)) => Step::On(Stage {
+            settings: x,
+            ..behind(with_spot(z, y), s, e)
+        }),
         Err(f) => refuse(z, f.number, f.place),
     }
 }

@@ -1,7 +1,7 @@
 -- The open conditionals of a lent buffer: the first n of it alone make them, and each function's change of them.
 -- Assumes nothing.
 use Prim.Native.Nat.{ℕ, zero, suc, ◌+◌, ◌<◌, ◌≤◌}
-use mathlib.Core.Bool.{Bool, true, not, ◌&&◌, ◌||◌}
+use mathlib.Core.Bool.{Bool, true, false, not, ◌&&◌, ◌||◌}
 use mathlib.Core.Option.{none}
 use mathlib.Core.List.{List, [], ◌∷◌}
 use mathlib.Core.Path.{◌≡◌, refl, sym, ap}
@@ -9,11 +9,17 @@ use native.Mathlib.Numerals.{add-one}
 use native.Mathlib.Omega.{arith}
 use lib.ListN.{length, get_or, set, length-set}
 use lib.Seq.{get_or-set_same, get_or-set_other}
+use Rattle.std.specs.Prelude.{Some}
+use Rattle.std.specs.Int.{from_bool}
 use borrow.Author.Tests.{eq-eqb, ne_eqb, le-leb, lt-leb}
 use Rattle.blocks.specs.declared.Blocks.{Blocks}
-use Rattle.blocks.specs.declared.Changed.TheVariants as changed
 use Rattle.blocks.specs.Blocks.{open_block, next_block, close_block}
 use Rattle.blocks.specs.Stacks.{blank_block, flag, conditional_of, open_in, BlocksIn, ChangedBy}
+
+-- a truth value as it is stored
+pub flag_from : {n : ℕ} (b : Bool) → n ≡ from_bool b → flag n ≡ b
+flag_from true e = rw e
+flag_from false e = rw e
 
 -- as many as are said to be open
 pub open_length : (w : List (List ℕ)) (n : ℕ) → length (open_in w n) ≡ n
@@ -60,7 +66,7 @@ open_refused w n file byte b h = rw (open_length, le-leb 32 n h)
 -- one more is open
 pub open_taken : (w : List (List ℕ)) (z : Blocks) (file byte : ℕ) (b : Bool) (p q r : ℕ) → BlocksIn w z → z.open < 32
     → flag p ≡ z.taken → flag q ≡ z.taken && b → flag r ≡ b
-    → ChangedBy (changed.To (record { «open» = z.open + 1; taken = z.taken && b })) (open_block file byte b (open_in w z.open))
+    → ChangedBy (Some (record { «open» = z.open + 1; taken = z.taken && b })) (open_block file byte b (open_in w z.open))
     w (set w z.open (file ∷ byte ∷ p ∷ q ∷ r ∷ 0 ∷ []))
 unfolding open_block
 open_taken w z file byte b p q r s h ep eq er =
@@ -85,7 +91,7 @@ pub next_taken : (w : List (List ℕ)) (n m : ℕ) (b l t : Bool) (p q r : ℕ) 
     → (get_or (get_or w m []) 5 0 ≡ 1 → ⊥)
     → t ≡ flag (get_or (get_or w m []) 2 0) && (not (flag (get_or (get_or w m []) 4 0)) && b)
     → flag p ≡ t → flag q ≡ flag (get_or (get_or w m []) 4 0) || b → flag r ≡ l
-    → ChangedBy (changed.To (record { «open» = n; taken = t })) (next_block b l (open_in w n)) w
+    → ChangedBy (Some (record { «open» = n; taken = t })) (next_block b l (open_in w n)) w
     (set w m (get_or (get_or w m []) 0 0 ∷ get_or (get_or w m []) 1 0 ∷ get_or (get_or w m []) 2 0 ∷ p ∷ q ∷ r ∷ []))
 unfolding next_block
 next_taken w n m b l t p q r e f g k et ep eq er =
@@ -100,13 +106,13 @@ unfolding close_block open_in
 close_none w n e = rw e
 
 -- `endif` of the only one
-pub close_one : (w : List (List ℕ)) (n : ℕ) → n ≡ 1 → 32 ≤ length w → ChangedBy (changed.To (record { «open» = 0; taken = true })) (close_block (open_in w n)) w w
+pub close_one : (w : List (List ℕ)) (n : ℕ) → n ≡ 1 → 32 ≤ length w → ChangedBy (Some (record { «open» = 0; taken = true })) (close_block (open_in w n)) w w
 unfolding close_block open_in
 close_one w n e h = (rw e, record { few = omega arith; lent = h; taken_is = refl })
 
 -- `endif` inside another
 pub close_taken : (w : List (List ℕ)) (n m k : ℕ) (t : Bool) → suc m ≡ n → suc k ≡ m → n ≤ 32 → 32 ≤ length w → t ≡ flag (get_or (get_or w k []) 3 0)
-    → ChangedBy (changed.To (record { «open» = m; taken = t })) (close_block (open_in w n)) w w
+    → ChangedBy (Some (record { «open» = m; taken = t })) (close_block (open_in w n)) w w
 unfolding close_block
 close_taken w n m k t e f g h et = (
   (rw (← e, open_top w m (omega arith))),

@@ -1,10 +1,8 @@
 -- The open conditionals in a lent buffer, six numbers each, the innermost last.
 -- Assumes nothing.
-use Rattle.std.specs.Prelude.{ℕ, zero, suc, ◌≤◌, Bool, true, false, ◌≡◌, List, [], ◌∷◌, eqb, length, get_or}
-use Rattle.std.proofs.Math.Option.{Option, none, some}
+use Rattle.std.specs.Prelude.{ℕ, zero, suc, ◌≤◌, Bool, true, false, ◌≡◌, List, [], ◌∷◌, eqb, length, get_or, Option, Some, None}
+use Rattle.std.proofs.Math.Option.{Option as Maybe, none, some}
 use Rattle.blocks.specs.declared.Blocks.{Blocks}
-use Rattle.blocks.specs.declared.Changed.{Changed}
-use Rattle.blocks.specs.declared.Changed.TheVariants as changed
 use Rattle.blocks.specs.Blocks.{Conditional, taken_by}
 
 abbrev pub blank_block : List ℕ
@@ -37,6 +35,6 @@ pub record BlocksIn (w : List (List ℕ)) (z : Blocks) : Type 0 where
   pub taken_is : z.taken ≡ taken_by (open_in w z.open)
 
 -- the open conditionals became what `next` says, or 8 refuses it
-abbrev pub ChangedBy : Changed → Option (List Conditional) → List (List ℕ) → List (List ℕ) → Type 0
-ChangedBy (changed.To z') next w w' = (next ≡ some (open_in w' z'.open)) × BlocksIn w' z'
-ChangedBy changed.Refused next w w' = (next ≡ none) × (w' ≡ w)
+abbrev pub ChangedBy : Option Blocks → Maybe (List Conditional) → List (List ℕ) → List (List ℕ) → Type 0
+ChangedBy (Some z') next w w' = (next ≡ some (open_in w' z'.open)) × BlocksIn w' z'
+ChangedBy None next w w' = (next ≡ none) × (w' ≡ w)

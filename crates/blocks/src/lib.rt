@@ -12,58 +12,59 @@ pub struct Blocks {
     pub taken: bool,
 }
 
-#[derive(Clone, Copy)]
-pub enum Changed {
-    To(Blocks),
-    Refused,
-}
-
-fn bit(b: bool) -> usize
-    ensures { flag result ≡ b }
-{
-    if b { 1 } else { 0 }
-}
-
-// `ifdef` or `ifndef` at a place, whose condition is `b`.
-pub fn open_block(w: &mut [[usize; 6]], z: Blocks, file: usize, byte: usize, b: bool) -> Changed
+// `ifdef` or `ifndef` at a place, whose condition is `b`; none where 32 are open.
+pub fn open_block(
+    w: &mut [[usize; 6]],
+    z: Blocks,
+    file: usize,
+    byte: usize,
+    b: bool,
+) -> Option<Blocks>
     requires { BlocksIn w.old z }
     ensures { ChangedBy result (open_block file byte b (open_in w.old z.open)) w.old w.new }
 {
     let n = z.open;
     if 32 <= n {
-        return Changed::Refused;
+        return None;
     }
     let active = z.taken & b;
-    w[n] = [file, byte, bit(z.taken), bit(active), bit(b), 0];
-    Changed::To(Blocks {
+    w[n] = [
+        file,
+        byte,
+        usize::from(z.taken),
+        usize::from(active),
+        usize::from(b),
+        0,
+    ];
+    Some(Blocks {
         open: n + 1,
         taken: active,
     })
 }
 
-// `elsif` whose condition is `b`, or `else`, the last.
-pub fn next_block(w: &mut [[usize; 6]], z: Blocks, b: bool, last: bool) -> Changed
+// `elsif` whose condition is `b`, or `else`, the last; none where no conditional is open, or behind `else`.
+pub fn next_block(w: &mut [[usize; 6]], z: Blocks, b: bool, last: bool) -> Option<Blocks>
     requires { BlocksIn w.old z }
     ensures { ChangedBy result (next_block b last (open_in w.old z.open)) w.old w.new }
 {
     let n = z.open;
     if n == 0 {
-        return Changed::Refused;
+        return None;
     }
     let v = w[n - 1];
     if v[5] == 1 {
-        return Changed::Refused;
+        return None;
     }
     let active = (v[2] == 1) & (!(v[4] == 1) & b);
     w[n - 1] = [
         v[0],
         v[1],
         v[2],
-        bit(active),
-        bit((v[4] == 1) | b),
-        bit(last),
+        usize::from(active),
+        usize::from((v[4] == 1) | b),
+        usize::from(last),
     ];
-    Changed::To(Blocks {
+    Some(Blocks {
         open: n,
         taken: active,
     })
@@ -76,22 +77,22 @@ fn is_active(v: [usize; 6]) -> bool
     v[3] == 1
 }
 
-// `endif`.
-pub fn close_block(w: &[[usize; 6]], z: Blocks) -> Changed
+// `endif`; none where no conditional is open.
+pub fn close_block(w: &[[usize; 6]], z: Blocks) -> Option<Blocks>
     requires { BlocksIn w.now z }
     ensures { ChangedBy result (close_block (open_in w.now z.open)) w.now w.now }
 {
     let n = z.open;
     if n == 0 {
-        return Changed::Refused;
+        return None;
     }
     if n == 1 {
-        return Changed::To(Blocks {
+        return Some(Blocks {
             open: 0,
             taken: true,
         });
     }
-    Changed::To(Blocks {
+    Some(Blocks {
         open: n - 1,
         taken: is_active(w[n - 2]),
     })

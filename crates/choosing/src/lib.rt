@@ -1,4 +1,5 @@
-// Conditional words (document 01, "Directives"): which blocks are open, and whether text is taken, behind one.
+// Conditional words (document 01, "Directives"): which blocks are open, and whether text is taken, behind one, and where it
+// ends; or it is refused.
 #![tactic(auto)]
 
 ghost use Rattle.std.specs.Prelude.{◌≡◌, false, eqb};
@@ -9,25 +10,21 @@ ghost use Rattle.turns.specs.States.{Here};
 ghost use Rattle.turns.specs.Acts.{conditional_act};
 ghost use Rattle.choosing.specs.Choosing.{choice_by, Word, ChosenBy};
 
-use blocks::{Blocks, Changed, close_block, next_block, open_block};
-use conditions::{Condition, condition_at};
-use lex::Token;
+use blocks::{Blocks, close_block, next_block, open_block};
+use conditions::condition_at;
+use lex::{Fault, Token};
 use names::{ELSE, ELSIF, ENDIF, IFDEF};
 
-// The blocks open behind a word, and where it ends; or refused, with the place.
-#[derive(Clone, Copy)]
-pub enum Chosen {
-    To(Blocks, usize),
-    Refused(usize, usize),
-}
-
 // The change of blocks by a word at `at` that ends at `e`, or 8.
-fn chosen_by(r: Changed, e: usize, at: usize) -> Chosen
+fn chosen_by(r: Option<Blocks>, e: usize, at: usize) -> Result<(Blocks, usize), Fault>
     ensures { result ≡ choice_by r e at }
 {
     match r {
-        Changed::To(k) => Chosen::To(k, e),
-        Changed::Refused => Chosen::Refused(8, at),
+        Some(k) => Ok((k, e)),
+        None => Err(Fault {
+            number: 8,
+            place: at,
+        }),
     }
 }
 
@@ -42,23 +39,18 @@ fn choose_by_condition(
     records: &[[u32; 4]],
     macros: usize,
     k: Blocks,
-) -> Chosen
+) -> Result<(Blocks, usize), Fault>
     requires { BlocksIn conds.old k × Stored bytes.now records.now macros × (eqb d Else ≡ false) × (eqb d Endif ≡ false) }
     ensures { (h : Here) → Word h s.now t file conds.old k bytes.now records.now macros → ChosenBy result (conditional_act d h) conds.old conds.new }
 {
-    let c = condition_at(s, t, bytes, records, macros);
-    match c {
-        Condition::Truth(is, e) => {
-            if d == ELSIF {
-                return chosen_by(next_block(conds, k, is, false), e, t.at);
-            }
-            if d == IFDEF {
-                return chosen_by(open_block(conds, k, file, t.at, is), e, t.at);
-            }
-            chosen_by(open_block(conds, k, file, t.at, !is), e, t.at)
-        }
-        Condition::Refused(n, p) => Chosen::Refused(n, p),
+    let (is, e) = condition_at(s, t, bytes, records, macros)?;
+    if d == ELSIF {
+        return chosen_by(next_block(conds, k, is, false), e, t.at);
     }
+    if d == IFDEF {
+        return chosen_by(open_block(conds, k, file, t.at, is), e, t.at);
+    }
+    chosen_by(open_block(conds, k, file, t.at, !is), e, t.at)
 }
 
 // A conditional word `t` of the file, in taken and in ignored text.
@@ -72,7 +64,7 @@ pub fn choose(
     records: &[[u32; 4]],
     macros: usize,
     k: Blocks,
-) -> Chosen
+) -> Result<(Blocks, usize), Fault>
     requires { BlocksIn conds.old k × Stored bytes.now records.now macros }
     ensures { (h : Here) → Word h s.now t file conds.old k bytes.now records.now macros → ChosenBy result (conditional_act d h) conds.old conds.new }
 {

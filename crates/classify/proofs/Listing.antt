@@ -7,14 +7,14 @@ use mathlib.Core.Path.{◌≡◌, refl, sym, ap, ◌∙◌}
 use native.Mathlib.Omega.{arith}
 use lib.Dec.{eqb, leb}
 use lib.ListN.{length}
+use Rattle.std.specs.Prelude.{Ok, Err}
 use borrow.Author.Tests.{eq-eqb, ne_eqb, le-leb, lt-leb, leb-true, leb-false}
+use Rattle.lex.specs.Faults.{fault}
 use Rattle.lex.specs.Tokens.{in_file, Name, Grave, is, token_at}
 use Rattle.lex.specs.declared.Mode.{Mode}
 use Rattle.lex.specs.declared.Token.{Token}
 use Rattle.lex.proofs.Progress.{token_ends}
-use Rattle.classify.specs.declared.Past.{Past}
-use Rattle.classify.specs.declared.Past.TheVariants.{On, Stop}
-use Rattle.classify.specs.Words.{past_grave, word_of, Words, ends, word_then, onward, with_room, words_from, words_of}
+use Rattle.classify.specs.Words.{Past, past_grave, word_of, Words, ends, word_then, onward, with_room, words_from, words_of}
 use Rattle.classify.proofs.Passing.{OnPast, grave_on}
 
 -- one turn by the token t at i; go v k j: what follows from j on, in the set v, with room for k words
@@ -31,8 +31,8 @@ room_alike (suc k) p w f g h = ap (word_then w) (h k)
 
 onward_alike : (i : ℕ) (p : Past) (f g : ℕ → ℕ → Words) → OnPast i p → ((e v : ℕ) → i ≤ e → f e v ≡ g e v) → onward p f ≡ onward p g
 unfolding OnPast
-onward_alike i (On e v) f g o h = h e v o
-onward_alike i (Stop n p) f g o h = refl
+onward_alike i (Ok x) f g o h = h x.0 x.1 o
+onward_alike i (Err u) f g o h = refl
 
 -- a turn looks only at what follows past the token
 turn_alike : (v₀ v : ℕ) (s : List ℕ) (k i : ℕ) (t : Token) (f g : ℕ → ℕ → ℕ → Words)
@@ -116,8 +116,8 @@ module _ (v₀ v : ℕ) (s : List ℕ) (k i : ℕ) where
         rest_other g = rest_turn ∙ rw (eq-eqb t.bar 0 b, ne_eqb t.kind Name n, ne_eqb t.kind Grave g)
 
         module _ (g : t.kind ≡ Grave) (p : Past) (q : p ≡ past_grave v₀ v s t) where
-          pub rest_on : (e v' : ℕ) → p ≡ On e v' → rest v₀ v s k i ≡ rest v₀ v' s k e
+          pub rest_on : (e v' : ℕ) → p ≡ Ok (e, v') → rest v₀ v s k i ≡ rest v₀ v' s k e
           rest_on e v' o = rest_turn ∙ rw (eq-eqb t.bar 0 b, ne_eqb t.kind Name n, eq-eqb t.kind Grave g, ← q, o)
 
-          pub rest_stop : (x y : ℕ) → p ≡ Stop x y → rest v₀ v s k i ≡ ends x y
+          pub rest_stop : (x y : ℕ) → p ≡ Err (fault x y) → rest v₀ v s k i ≡ ends x y
           rest_stop x y o = rest_turn ∙ rw (eq-eqb t.bar 0 b, ne_eqb t.kind Name n, eq-eqb t.kind Grave g, ← q, o)

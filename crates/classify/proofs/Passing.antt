@@ -6,6 +6,8 @@ use mathlib.Core.List.{List, []}
 use mathlib.Core.Path.{◌≡◌, refl, sym, ap, subst, ◌∙◌}
 use native.Mathlib.Omega.{arith}
 use lib.Dec.{eqb}
+use Rattle.std.specs.Prelude.{Ok, Err}
+use Rattle.lex.specs.Faults.{fault}
 use Rattle.lex.specs.Tokens.{name_of}
 use Rattle.lex.specs.declared.Token.{Token}
 use Rattle.lex.proofs.Tests.{by_test}
@@ -20,20 +22,16 @@ use Rattle.definition.specs.Answers.{judged_of}
 use Rattle.definition.specs.declared.Judged.{Judged}
 use Rattle.definition.specs.declared.Judged.TheVariants as judged
 use Rattle.definition.proofs.Advance.{definition_past}
-use Rattle.conditions.specs.Grammar.{is_defined, condition_at}
-use Rattle.conditions.specs.declared.Condition.{Condition}
-use Rattle.conditions.specs.declared.Condition.TheVariants.{Truth, Refused}
+use Rattle.conditions.specs.Grammar.{Condition, is_defined, condition_at}
 use Rattle.conditions.proofs.Parts.{condition_past}
-use Rattle.classify.specs.declared.Past.{Past}
-use Rattle.classify.specs.declared.Past.TheVariants.{On, Stop}
-use Rattle.classify.specs.Words.{by_form, by_definition, by_condition, takes_condition, past_directive, past_grave}
+use Rattle.classify.specs.Words.{Past, by_form, by_definition, by_condition, takes_condition, past_directive, past_grave}
 
 -- past a definition whose word ends at e, as it was judged
 abbrev pub by_judged : ℕ → ℕ → Judged → Past
-by_judged v e (judged.Barred n p) = Stop n p
-by_judged v e (judged.Bad e') = On e v
-by_judged v e (judged.Good e') = On e' v
-by_judged v e judged.Short = On e v
+by_judged v e (judged.Barred n p) = Err (fault n p)
+by_judged v e (judged.Bad e') = Ok (e, v)
+by_judged v e (judged.Good e') = Ok (e', v)
+by_judged v e judged.Short = Ok (e, v)
 
 by-judged : (v e : ℕ) (d : Definition) → by_judged v e (judged_of d) ≡ by_definition v e d
 by-judged v e (barred n p) = refl
@@ -45,8 +43,8 @@ judged_past v s i r x a b = ap (by_judged v i) (sym b ∙ a) ∙ by-judged v i (
 
 -- where to read on lies at i or later
 unfoldable pub OnPast : ℕ → Past → Type 0
-OnPast i (On e v) = i ≤ e
-OnPast i (Stop n p) = Unit {0}
+OnPast i (Ok x) = i ≤ x.0
+OnPast i (Err f) = Unit {0}
 
 module _ (v₀ v i : ℕ) where
   form_on : (f : Form) → ((x : Value) (e : ℕ) → f ≡ form.Formed x e → i ≤ e) → OnPast i (by_form v₀ v i f)
@@ -61,10 +59,10 @@ module _ (v₀ v i : ℕ) where
   definition_on (bad e) h = omega arith
   definition_on (good m e) h = h m e refl
 
-  condition_on : (c : Condition) → ((b : Bool) (e : ℕ) → c ≡ Truth b e → i ≤ e) → OnPast i (by_condition v i c)
+  condition_on : (c : Condition) → ((b : Bool) (e : ℕ) → c ≡ Ok (b, e) → i ≤ e) → OnPast i (by_condition v i c)
   unfolding OnPast
-  condition_on (Truth b e) h = h b e refl
-  condition_on (Refused n p) h = by_test (OnPast i) (eqb n 7) (λ q. omega arith) (λ q. tt)
+  condition_on (Ok x) h = h x.0 x.1 refl
+  condition_on (Err f) h = by_test (OnPast i) (eqb f.number 7) (λ q. omega arith) (λ q. tt)
 
 module _ (v₀ v : ℕ) (s : List ℕ) (t : Token) where
   directive_on : (d : ℕ) → OnPast t.end (past_directive d v₀ v s t)
@@ -79,6 +77,6 @@ module _ (v₀ v : ℕ) (s : List ℕ) (t : Token) where
   unfolding past_grave
   grave_on = directive_on (directive_of (name_of s t))
 
-  pub grave_past : (p : Past) (e v' : ℕ) → p ≡ past_grave v₀ v s t → p ≡ On e v' → t.end ≤ e
+  pub grave_past : (p : Past) (e v' : ℕ) → p ≡ past_grave v₀ v s t → p ≡ Ok (e, v') → t.end ≤ e
   unfolding OnPast
   grave_past p e v' a b = subst (OnPast t.end) b (rw a grave_on)

@@ -6,13 +6,13 @@ use mathlib.Core.Path.{◌≡◌, refl, sym, ap, ◌∙◌}
 use native.Mathlib.Omega.{arith}
 use lib.ListN.{length, set, drop, length-drop, length-append}
 use lib.Seq.{drop-cons, set_at}
+use Rattle.std.specs.Prelude.{Ok, Err}
+use Rattle.lex.specs.Faults.{fault}
 use Rattle.lex.specs.Tokens.{in_file, Name, Grave, token_at}
 use Rattle.lex.specs.declared.Mode.{Mode}
 use Rattle.lex.specs.declared.Token.{Token}
-use Rattle.classify.specs.declared.Past.{Past}
-use Rattle.classify.specs.declared.Past.TheVariants.{On, Stop}
 use Rattle.classify.specs.declared.Ended.{Ended}
-use Rattle.classify.specs.Words.{past_grave, word_of, Words, ends, words_of}
+use Rattle.classify.specs.Words.{Past, past_grave, word_of, Words, ends, words_of}
 use Rattle.classify.specs.Answer.{overwritten, Listed}
 use Rattle.classify.proofs.Listing.{rest, rest_whole, rest_out, rest_barred, rest_full, rest_word, rest_other, rest_on, rest_stop}
 
@@ -83,8 +83,8 @@ module _ (v₀ : ℕ) (s : List ℕ) (lent words : List (List ℕ)) (v i n : ℕ
         written_other g = on v t.end (rest_other v₀ v s _ i m t h f e b k g)
 
         module _ (g : t.kind ≡ Grave) (p : Past) (q : p ≡ past_grave v₀ v s t) where
-          pub written_on : (j v' : ℕ) → p ≡ On j v' → Written v₀ s lent words v' j n
+          pub written_on : (j v' : ℕ) → p ≡ Ok (j, v') → Written v₀ s lent words v' j n
           written_on j v' o = on v' j (rest_on v₀ v s _ i m t h f e b k g p q j v' o)
 
-          pub listed_stop : (a : Ended) (x y : ℕ) → p ≡ Stop x y → a ≡ record { number = x; place = y; words = n } → Listed v₀ s lent words a
+          pub listed_stop : (a : Ended) (x y : ℕ) → p ≡ Err (fault x y) → a ≡ record { number = x; place = y; words = n } → Listed v₀ s lent words a
           listed_stop a x y o = stop x y a (rest_stop v₀ v s _ i m t h f e b k g p q x y o)

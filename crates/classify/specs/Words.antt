@@ -1,8 +1,10 @@
 -- Classify (01, "Reserved words"): "each plain name outside directives, with offset, length, reserved or not".
 -- Assumes nothing.
-use Rattle.std.specs.Prelude.{ℕ, zero, suc, ◌-◌, Bool, cond, not, ◌||◌, List, [], ◌∷◌, eqb, leb, length}
+use Rattle.std.specs.Prelude.{ℕ, zero, suc, ◌-◌, Bool, cond, not, ◌||◌, List, [], ◌∷◌, eqb, leb, length, Result, Ok, Err}
 use Rattle.lex.specs.Tokens.{in_file, Name, Grave, is, name_of, token_at}
+use Rattle.lex.specs.declared.Fault.{Fault}
 use Rattle.lex.specs.declared.Token.{Token}
+use Rattle.lex.specs.Faults.{fault}
 use Rattle.keywords.specs.Keywords.{is_reserved}
 use Rattle.names.specs.Names.{Define, Ifdef, Ifndef, Elsif, directive_of}
 use Rattle.directive.specs.Forms.{form_at}
@@ -10,27 +12,27 @@ use Rattle.directive.specs.declared.Form.{Form}
 use Rattle.directive.specs.declared.Form.TheVariants as form
 use Rattle.settings.specs.Settings.{keywords_by}
 use Rattle.definition.specs.Definitions.{Definition, barred, bad, good, definition_at}
-use Rattle.conditions.specs.Grammar.{is_defined, condition_at}
-use Rattle.conditions.specs.declared.Condition.{Condition}
-use Rattle.conditions.specs.declared.Condition.TheVariants.{Truth, Refused}
-use Rattle.classify.specs.declared.Past.{Past}
-use Rattle.classify.specs.declared.Past.TheVariants.{On, Stop}
+use Rattle.conditions.specs.Grammar.{Condition, is_defined, condition_at}
+
+-- where to read on, and in which keyword set; or a refusal
+abbrev pub Past : Type 0
+Past = Result (ℕ × ℕ) Fault
 
 -- "In classify a well-formed directive gives no words; of an ill_formed one, or any other grave accent name, only that
 -- token is skipped", which ends at e
 abbrev pub by_form : ℕ → ℕ → ℕ → Form → Past
-by_form v₀ v e (form.Formed x e') = On e' (keywords_by x v₀ v)
-by_form v₀ v e form.Unformed = On e v
-by_form v₀ v e (form.Barred n p) = Stop n p
+by_form v₀ v e (form.Formed x e') = Ok (e', keywords_by x v₀ v)
+by_form v₀ v e form.Unformed = Ok (e, v)
+by_form v₀ v e (form.Barred n p) = Err (fault n p)
 
 abbrev pub by_definition : ℕ → ℕ → Definition → Past
-by_definition v e (barred n p) = Stop n p
-by_definition v e (bad e') = On e v
-by_definition v e (good m e') = On e' v
+by_definition v e (barred n p) = Err (fault n p)
+by_definition v e (bad e') = Ok (e, v)
+by_definition v e (good m e') = Ok (e', v)
 
 abbrev pub by_condition : ℕ → ℕ → Condition → Past
-by_condition v e (Truth b e') = On e' v
-by_condition v e (Refused n p) = cond (eqb n 7) (On e v) (Stop n p)
+by_condition v e (Ok x) = Ok (x.1, v)
+by_condition v e (Err f) = cond (eqb f.number 7) (Ok (e, v)) (Err f)
 
 abbrev pub takes_condition : ℕ → Bool
 takes_condition d = eqb d Ifdef || (eqb d Ifndef || eqb d Elsif)
@@ -66,8 +68,8 @@ abbrev pub word_then : List ℕ → Words → Words
 word_then w r = record { words = w ∷ r.words; number = r.number; place = r.place }
 
 abbrev pub onward : Past → (ℕ → ℕ → Words) → Words
-onward (On e v) go = go e v
-onward (Stop n p) go = ends n p
+onward (Ok x) go = go x.0 x.1
+onward (Err f) go = ends f.number f.place
 
 -- a word, where room is left; 21: "no room for a word"
 abbrev pub with_room : ℕ → ℕ → List ℕ → (ℕ → Words) → Words

@@ -7,14 +7,14 @@ ghost use Rattle.definition.specs.Definitions.{definition_at};
 ghost use Rattle.definition.specs.Answers.{judged_of};
 ghost use Rattle.keywords.specs.Tables.{Tables};
 ghost use Rattle.conditions.specs.Grammar.{is_defined, condition_at};
-ghost use Rattle.classify.specs.Words.{by_form, by_definition, by_condition, takes_condition, past_directive, past_grave, word_of, bit, words_of};
+ghost use Rattle.classify.specs.Words.{by_form, by_definition, by_condition, takes_condition, past_directive, past_grave, word_of, words_of};
 ghost use Rattle.classify.specs.Answer.{refused_line, outcome_of, Listed, Answered};
 
-use conditions::{Condition, condition_at};
+use conditions::condition_at;
 use definition::{Judged, judge_definition};
 use directive::{Form, form_at};
 use keywords::{BYTES, FIRSTS, STARTS, is_reserved};
-use lex::{GRAVE, NAME, Token, in_file, token_at};
+use lex::{Fault, GRAVE, NAME, Token, in_file, token_at};
 use names::{DEFINE, ELSIF, IFDEF, IFNDEF, directive_of};
 use places::line_at;
 use settings::keywords_after;
@@ -31,13 +31,6 @@ pub struct Classified {
     pub words: usize,
 }
 
-// Where to read on, and in which keyword set; or a refusal and its place.
-#[derive(Clone, Copy)]
-pub enum Past {
-    On(usize, usize),
-    Stop(usize, usize),
-}
-
 // How a text was read: the refusal, or 0, with its place, and the words written.
 #[derive(Clone, Copy)]
 pub struct Ended {
@@ -46,14 +39,18 @@ pub struct Ended {
     pub words: usize,
 }
 
-// Past a directive by its form, where only its word, which ends at `at`, is skipped if it is ill_formed.
-fn past_form(f: Form, start: usize, set: usize, at: usize) -> Past
+// Past a directive by its form, where only its word, which ends at `at`, is skipped if it is ill_formed: where to read on, and
+// in which keyword set.
+fn past_form(f: Form, start: usize, set: usize, at: usize) -> Result<(usize, usize), Fault>
     ensures { result ≡ by_form start set at f }
 {
     match f {
-        Form::Formed(v, e) => Past::On(e, keywords_after(v, start, set)),
-        Form::Unformed => Past::On(at, set),
-        Form::Barred(n, p) => Past::Stop(n, p),
+        Form::Formed(v, e) => Ok((e, keywords_after(v, start, set))),
+        Form::Unformed => Ok((at, set)),
+        Form::Barred(n, p) => Err(Fault {
+            number: n,
+            place: p,
+        }),
     }
 }
 
@@ -68,59 +65,62 @@ fn judge_deep(s: &[u8], at: usize, name: &mut [u8]) -> Judged
     judge_definition(s, at, name, &mut stack)
 }
 
-// With the lent bytes for brackets first, then with more. `tries` is 2 at first.
-fn judge(s: &[u8], at: usize, name: &mut [u8], stack: &mut [u8], tries: usize) -> Judged
+// With the lent bytes for brackets first, then with more.
+fn judge(s: &[u8], at: usize, name: &mut [u8], stack: &mut [u8]) -> Judged
     requires { (length s.now ≤ 16777215) × (1025 ≤ length name.old) }
     ensures { result ≡ judged_of (definition_at s.now at) }
 {
-    if tries == 0 {
-        return judge_deep(s, at, name);
-    }
-    if tries == 1 {
-        let r = judge_definition(s, at, name, stack);
-        let Judged::Short = r else {
-            return r;
-        };
-        return judge(s, at, name, stack, 0);
-    }
-    let r = judge(s, at, name, stack, 1);
+    let r = judge_definition(s, at, name, stack);
     let Judged::Short = r else {
         return r;
     };
-    judge(s, at, name, stack, 0)
+    judge_deep(s, at, name)
 }
 
 // Past the definition whose word ends at `at`.
-fn past_definition(s: &[u8], at: usize, set: usize, name: &mut [u8], stack: &mut [u8]) -> Past
+fn past_definition(
+    s: &[u8],
+    at: usize,
+    set: usize,
+    name: &mut [u8],
+    stack: &mut [u8],
+) -> Result<(usize, usize), Fault>
     requires { (length s.now ≤ 16777215) × (1025 ≤ length name.old) }
     ensures { result ≡ by_definition set at (definition_at s.now at) }
 {
-    let r = judge(s, at, name, stack, 2);
+    let r = judge(s, at, name, stack);
     match r {
-        Judged::Barred(n, p) => Past::Stop(n, p),
-        Judged::Bad(_) => Past::On(at, set),
-        Judged::Good(e) => Past::On(e, set),
-        Judged::Short => Past::On(at, set),
+        Judged::Barred(n, p) => Err(Fault {
+            number: n,
+            place: p,
+        }),
+        Judged::Bad(_) => Ok((at, set)),
+        Judged::Good(e) => Ok((e, set)),
+        Judged::Short => Ok((at, set)),
     }
 }
 
 // Past a conditional word, which ends at `at`, by its condition.
-fn past_condition(c: Condition, at: usize, set: usize) -> Past
+fn past_condition(
+    c: Result<(bool, usize), Fault>,
+    at: usize,
+    set: usize,
+) -> Result<(usize, usize), Fault>
     ensures { result ≡ by_condition set at c }
 {
     match c {
-        Condition::Truth(_, e) => Past::On(e, set),
-        Condition::Refused(n, p) => {
-            if n == 7 {
-                return Past::On(at, set);
+        Ok((_, e)) => Ok((e, set)),
+        Err(f) => {
+            if f.number == 7 {
+                return Ok((at, set));
             }
-            Past::Stop(n, p)
+            Err(f)
         }
     }
 }
 
 // The condition behind the conditional word `t`, where nothing is defined.
-fn condition_form(s: &[u8], t: Token) -> Condition
+fn condition_form(s: &[u8], t: Token) -> Result<(bool, usize), Fault>
     ensures { result ≡ condition_at s.now (is_defined []) t }
 {
     let bytes = [0u8; 1];
@@ -143,7 +143,7 @@ fn past_directive(
     set: usize,
     name: &mut [u8],
     stack: &mut [u8],
-) -> Past
+) -> Result<(usize, usize), Fault>
     requires { (length s.now ≤ 16777215) × (1025 ≤ length name.old) }
     ensures { result ≡ past_directive d start set s.now t }
 {
@@ -164,18 +164,12 @@ fn past_grave(
     set: usize,
     name: &mut [u8],
     stack: &mut [u8],
-) -> Past
+) -> Result<(usize, usize), Fault>
     requires { (length s.now ≤ 16777215) × (1025 ≤ length name.old) }
     ensures { result ≡ past_grave start set s.now t }
 {
     let d = directive_of(part_of(s, t.from, t.end));
     past_directive(d, s, t, start, set, name, stack)
-}
-
-fn bit_of(b: bool) -> u32
-    ensures { result ≡ bit b }
-{
-    if b { 1 } else { 0 }
 }
 
 // The name `t` as a word, by the three keyword tables.
@@ -191,7 +185,7 @@ fn word_of(
     ensures { result ≡ word_of s.now set t }
 {
     let reserved = is_reserved(bytes, starts, firsts, part_of(s, t.from, t.end), set);
-    [t.at as u32, (t.end - t.at) as u32, bit_of(reserved)]
+    [t.at as u32, (t.end - t.at) as u32, u32::from(reserved)]
 }
 
 fn make_ended(number: usize, place: usize, words: usize) -> Ended
@@ -241,13 +235,12 @@ fn list_words(
         }
         let p = past_grave(s, t, start, set, name, stack);
         match p {
-            Past::On(e, v) => {
+            Ok((e, v)) => {
                 i = e;
                 set = v;
-                continue;
             }
-            Past::Stop(k, q) => {
-                return make_ended(k, q, n);
+            Err(f) => {
+                return make_ended(f.number, f.place, n);
             }
         }
     }

@@ -7,8 +7,7 @@ use mathlib.Core.Path.{◌≡◌, refl, sym, ◌∙◌}
 use lib.ListN.{drop}
 use borrow.Author.Tests.{not-true, not-false}
 use Rattle.text.specs.Bytes.{bytes, begins}
-use Rattle.conditions.specs.declared.Condition.{Condition}
-use Rattle.conditions.specs.Grammar.{none_here, operator, implies, equivalent, and_at, or_at, arrow_at, operand, nots_by, ands_by, ors_by, parentheses_at}
+use Rattle.conditions.specs.Grammar.{Condition, none_here, operator, implies, equivalent, and_at, or_at, arrow_at, operand, nots_by, ands_by, ors_by, parentheses_at}
 use Rattle.conditions.proofs.Parts.{and_in, or_in, arrow_in, nots_in, ands_in, ors_in, parentheses_in}
 use Rattle.conditions.proofs.Loops.{ChainOf}
 

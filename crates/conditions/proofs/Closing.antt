@@ -6,12 +6,12 @@ use mathlib.Core.List.{List}
 use mathlib.Core.Path.{◌≡◌, refl, sym, ◌∙◌}
 use native.Mathlib.Omega.{arith}
 use lib.ListN.{get_or}
+use Rattle.std.specs.Prelude.{Ok, Err}
 use Rattle.text.specs.Bytes.{bytes}
+use Rattle.lex.specs.declared.Fault.{Fault}
 use Rattle.lex.specs.Tokens.{in_file, token_at}
 use Rattle.directive.specs.Words.{word_start}
-use Rattle.conditions.specs.declared.Condition.{Condition}
-use Rattle.conditions.specs.declared.Condition.TheVariants.{Truth, Refused}
-use Rattle.conditions.specs.Grammar.{unfit, name_at, operand, arrows_by, closed, parentheses_at}
+use Rattle.conditions.specs.Grammar.{Condition, unfit, name_at, operand, arrows_by, closed, parentheses_at}
 use Rattle.conditions.specs.Reading.{Reads}
 use Rattle.conditions.proofs.Signs.{byte_here, other_byte}
 
@@ -34,11 +34,11 @@ module _ (s : List ℕ) {b : List ℕ} {rows : List (List ℕ)} {n : ℕ} where
     by_arrows : Reads (closed s r) (λ d. parentheses_at s d left at) b rows n
     by_arrows ms h = sym (parentheses_step s _ left at some ∙ rw (← w, ← e ms h))
 
-    pub closes_refused : {m p : ℕ} → r ≡ Refused m p → Reads (Refused m p) (λ d. parentheses_at s d left at) b rows n
+    pub closes_refused : {g : Fault} → r ≡ Err g → Reads (Err g) (λ d. parentheses_at s d left at) b rows n
     closes_refused q ms h = rw q at (by_arrows ms h)
 
-    module _ {v : Bool} {p x : ℕ} (q : r ≡ Truth v p) (z : x ≡ get_or s p 0) where
-      pub closes : x ≡ 41 → Reads (Truth v (p + 1)) (λ d. parentheses_at s d left at) b rows n
+    module _ {v : Bool} {p x : ℕ} (q : r ≡ Ok (v, p)) (z : x ≡ get_or s p 0) where
+      pub closes : x ≡ 41 → Reads (Ok (v, p + 1)) (λ d. parentheses_at s d left at) b rows n
       unfolding bytes
       closes u ms h = rw (q, byte_here s p 41 (omega arith) z u) at (by_arrows ms h)
 

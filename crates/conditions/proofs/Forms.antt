@@ -5,18 +5,17 @@ use mathlib.Core.Bool.{Bool, true, false, cond, not, ◌&&◌, ◌||◌}
 use mathlib.Core.List.{List}
 use lib.Dec.{eqb}
 use lib.ListN.{length}
+use Rattle.std.specs.Prelude.{Ok, Err}
 use Rattle.text.specs.Bytes.{bytes}
 use Rattle.lex.specs.declared.Token.{Token}
 use Rattle.lex.specs.Tokens.{in_file, Name, Escaped, is, token_at}
 use Rattle.directive.specs.Words.{word_start}
-use Rattle.conditions.specs.declared.Condition.{Condition}
-use Rattle.conditions.specs.declared.Condition.TheVariants.{Truth, Refused}
 use Rattle.conditions.specs.Forms.{SameForm, same_end, same_refusal}
-use Rattle.conditions.specs.Grammar.{on_truth, mapped, Operator, none_here, operator, stands, and_at, or_at, arrow_at, spaced, joined, chain, negated, name_at, operand, arrows_by, closed, parentheses_at, condition_at}
+use Rattle.conditions.specs.Grammar.{Condition, on_truth, mapped, Operator, none_here, operator, stands, and_at, or_at, arrow_at, spaced, joined, chain, negated, name_at, operand, arrows_by, closed, parentheses_at, condition_at}
 
 same_self : (r : Condition) → SameForm r r
-same_self (Truth v p) = same_end
-same_self (Refused n p) = same_refusal
+same_self (Ok x) = same_end
+same_self (Err g) = same_refusal
 
 -- a choice by a test of the text alone
 same_choice : (b : Bool) {x y x' y' : Condition} → SameForm x x' → SameForm y y' → SameForm (cond b x y) (cond b x' y')

@@ -6,26 +6,26 @@ use mathlib.Core.List.{List}
 use mathlib.Core.Path.{◌≡◌, refl, sym, ap, subst, ◌∙◌}
 use native.Mathlib.Omega.{arith}
 use lib.ListN.{length, get_or}
+use Rattle.std.specs.Prelude.{Ok, Err}
+use Rattle.lex.specs.declared.Fault.{Fault}
 use Rattle.text.specs.Bytes.{bytes}
 use Rattle.places.proofs.Levels.{Level}
 use Rattle.definition.specs.Definitions.{Macro}
 use Rattle.store.specs.Buffers.{Holds, Stored}
 use Rattle.directive.specs.Words.{word_start}
-use Rattle.conditions.specs.declared.Condition.{Condition}
-use Rattle.conditions.specs.declared.Condition.TheVariants.{Truth, Refused}
-use Rattle.conditions.specs.Grammar.{is_defined, on_truth, mapped, Operator, none_here, operator, spaced, joined, chain, negated}
+use Rattle.conditions.specs.Grammar.{Condition, is_defined, on_truth, mapped, Operator, none_here, operator, spaced, joined, chain, negated}
 use Rattle.conditions.specs.Reading.{differs, Reads}
 use Rattle.conditions.proofs.Parts.{ReadIn, start_level, OperatorIn}
 use Rattle.conditions.proofs.Steps.{chain_step, nots_step}
 use Rattle.conditions.proofs.Signs.{byte_here, other_byte, byte_inside}
 
 mapped_same : (f : Bool → Bool) → ((v : Bool) → f v ≡ v) → (r : Condition) → r ≡ mapped f r
-mapped_same f e (Truth v p) = ap (λ (b : Bool). Truth b p) (sym (e v))
-mapped_same f e (Refused n p) = refl
+mapped_same f e (Ok x) = ap (λ (b : Bool). Ok (b, x.1)) (sym (e x.0))
+mapped_same f e (Err g) = refl
 
 mapped_twice : (f g h : Bool → Bool) → ((v : Bool) → f (g v) ≡ h v) → (r : Condition) → mapped f (mapped g r) ≡ mapped h r
-mapped_twice f g h e (Truth v p) = ap (λ (b : Bool). Truth b p) (e v)
-mapped_twice f g h e (Refused n p) = refl
+mapped_twice f g h e (Ok x) = ap (λ (b : Bool). Ok (b, x.1)) (e x.0)
+mapped_twice f g h e (Err u) = refl
 
 differs_not : (odd v : Bool) → differs odd (not v) ≡ differs (not odd) v
 differs_not true v = not-not v
@@ -61,12 +61,12 @@ module _ {s b : List ℕ} {rows : List (List ℕ)} {n : ℕ} where
         let d = is_defined ms in
         k.same ms h ∙ ap (mapped f) (chain_step s l.op l.op_in (l.one d) (l.one_in d) i k.inside ∙ ap (λ (x : Condition). on_truth x (λ v p. joined s (l.op p) v p (λ q. chained l d q))) (sym (e ms h)))
 
-    pub chain_refused : {m p : ℕ} → r ≡ Refused m p → Reads (Refused m p) (λ d. chained l d at) b rows n
+    pub chain_refused : {g : Fault} → r ≡ Err g → Reads (Err g) (λ d. chained l d at) b rows n
     chain_refused q ms h = sym (rw q at (by_next ms h))
 
-    module _ {v : Bool} {p : ℕ} (q : r ≡ Truth v p) where
-      pub chain_ends : l.op p ≡ none_here → {w : Bool} → w ≡ f v → Reads (Truth w p) (λ d. chained l d at) b rows n
-      chain_ends o u ms h = ap (λ (x : Bool). Truth x p) u ∙ sym (rw (q, o) at (by_next ms h))
+    module _ {v : Bool} {p : ℕ} (q : r ≡ Ok (v, p)) where
+      pub chain_ends : l.op p ≡ none_here → {w : Bool} → w ≡ f v → Reads (Ok (w, p)) (λ d. chained l d at) b rows n
+      chain_ends o u ms h = ap (λ (x : Bool). Ok (x, p)) u ∙ sym (rw (q, o) at (by_next ms h))
 
       pub chain_place : Stored b rows n → (i < p) × Level s i p
       unfolding ReadIn

@@ -8,9 +8,11 @@ use mathlib.Core.Path.{◌≡◌, refl, subst}
 use native.Mathlib.Omega.{arith}
 use lib.Dec.{eqb, leb}
 use lib.ListN.{length, drop_of_length-le}
+use Rattle.std.specs.Prelude.{Ok, Err}
 use borrow.Author.Tests.{leb-true, leb-false, not-true}
 use Rattle.text.specs.Bytes.{bytes, begins, holds}
 use Rattle.lex.specs.declared.Token.{Token}
+use Rattle.lex.specs.Faults.{fault}
 use Rattle.lex.specs.Tokens.{in_file, Newline, BlockComment, String, Name, Escaped, White, LineComment, Continuation, is, is_gap, name_of, token_at}
 use Rattle.lex.proofs.Tests.{by_test, and_left, and_right}
 use Rattle.lex.proofs.Progress.{token_past, token-at, token_ends}
@@ -19,9 +21,7 @@ use Rattle.directive.proofs.Wording.{start_out, by_start}
 use Rattle.definition.proofs.Formals.{kind_inside}
 use Rattle.places.proofs.Levels.{Level, level_here, level_on, other_kind, token_level, word_level}
 use Rattle.directive.specs.Words.{word_start}
-use Rattle.conditions.specs.declared.Condition.{Condition}
-use Rattle.conditions.specs.declared.Condition.TheVariants.{Truth, Refused}
-use Rattle.conditions.specs.Grammar.{on_truth, mapped, unfit, Operator, none_here, operator, implies, equivalent, stands, and_at, or_at, arrow_at, spaced, joined, chain, negated, name_at, operand, nots_by, ands_by, ors_by, arrows_by, closed, parentheses_at, condition_at}
+use Rattle.conditions.specs.Grammar.{Condition, on_truth, mapped, unfit, Operator, none_here, operator, implies, equivalent, stands, and_at, or_at, arrow_at, spaced, joined, chain, negated, name_at, operand, nots_by, ands_by, ors_by, arrows_by, closed, parentheses_at, condition_at}
 
 abbrev gap_kind : ℕ → Bool
 gap_kind k = eqb k White || (eqb k LineComment || (eqb k BlockComment || eqb k Continuation))
@@ -35,8 +35,8 @@ pub record RefusedIn (s : List ℕ) (n p : ℕ) : Type 0 where
 module _ (s : List ℕ) where
   -- what is read from i on
   unfoldable pub ReadIn : ℕ → Condition → Type 0
-  ReadIn i (Truth v p) = (i < p) × Level s i p
-  ReadIn i (Refused n p) = RefusedIn s n p
+  ReadIn i (Ok x) = (i < x.1) × Level s i x.1
+  ReadIn i (Err g) = RefusedIn s g.number g.place
 
   -- white bytes and comments before the next word hold no newline
   pub start_level : (i : ℕ) → i ≤ length s → Level s i (word_start s i)
@@ -54,25 +54,25 @@ module _ (s : List ℕ) where
   -- f done to the value
   pub mapped_in : (f : Bool → Bool) (i : ℕ) (r : Condition) → ReadIn i r → ReadIn i (mapped f r)
   unfolding ReadIn
-  mapped_in f i (Truth v p) h = h
-  mapped_in f i (Refused n p) h = h
+  mapped_in f i (Ok x) h = h
+  mapped_in f i (Err g) h = h
 
   -- the same from an earlier place on
   pub earlier : (i j : ℕ) (r : Condition) → Level s i j → ReadIn j r → ReadIn i r
   unfolding ReadIn
-  earlier i j (Truth v p) l h = (omega (arith, l.inside.past, h.0), level_on l h.1)
-  earlier i j (Refused n p) l h = h
+  earlier i j (Ok x) l h = (omega (arith, l.inside.past, h.0), level_on l h.1)
+  earlier i j (Err g) l h = h
 
   pub on-truth : (i : ℕ) (r : Condition) (k : Bool → ℕ → Condition) → ReadIn i r → ((v : Bool) (p : ℕ) → i < p → Level s i p → ReadIn i (k v p)) → ReadIn i (on_truth r k)
   unfolding ReadIn
-  on-truth i (Truth v p) k h g = g v p h.0 h.1
-  on-truth i (Refused n p) k h g = h
+  on-truth i (Ok x) k h g = g x.0 x.1 h.0 h.1
+  on-truth i (Err u) k h g = h
 
   -- white bytes and comments behind a part
   pub spaced_in : (i : ℕ) (r : Condition) → ReadIn i r → ReadIn i (spaced s r)
   unfolding ReadIn
   spaced_in i r h =
-      on-truth i r (λ v p. Truth v (word_start s p)) h
+      on-truth i r (λ v p. Ok (v, word_start s p)) h
       (λ v p l a. let b = start_level p a.inside.within in (omega (arith, b.inside.past), level_on a b))
 
   -- an operator at p
@@ -198,25 +198,25 @@ module _ (s : List ℕ) where
         let b = start_level t.end l in
         earlier t.end (word_start s t.end) _ b (operand_in (parentheses_at s defined 32) (parentheses_in 32) q (word_start s t.end) h b.inside.within)
 
-    pub condition_refused : (t : Token) → t.at ≤ length s → t.end ≤ length s → (n p : ℕ) → condition_at s defined t ≡ Refused n p → RefusedIn s n p
+    pub condition_refused : (t : Token) → t.at ≤ length s → t.end ≤ length s → (n p : ℕ) → condition_at s defined t ≡ Err (fault n p) → RefusedIn s n p
     unfolding condition_at ReadIn
     condition_refused t h l n p q = subst (ReadIn t.end) q (condition_in t t.at h l)
 
     -- a truth value does not depend on the place of 7
-    placed : (group : ℕ → Condition) (q i : ℕ) (v : Bool) (e : ℕ) → operand s defined group q i ≡ Truth v e → operand s defined group 0 i ≡ Truth v e
+    placed : (group : ℕ → Condition) (q i : ℕ) (v : Bool) (e : ℕ) → operand s defined group q i ≡ Ok (v, e) → operand s defined group 0 i ≡ Ok (v, e)
     unfolding name_at
     placed group q i v e =
         let t = token_at in_file s i in
-        go (stands s (bytes "(") i) (eqb t.bar 0 && (is Name t || is Escaped t)) (eqb t.bar 0) (group i) (Truth (defined (name_of s t)) t.end) t.bar t.at
+        go (stands s (bytes "(") i) (eqb t.bar 0 && (is Name t || is Escaped t)) (eqb t.bar 0) (group i) (Ok (defined (name_of s t), t.end)) t.bar t.at
       where
-        go : (a b c : Bool) (x y : Condition) (n p : ℕ) → cond a x (cond b y (cond c (Refused 7 q) (Refused n p))) ≡ Truth v e
-            → cond a x (cond b y (cond c (Refused 7 0) (Refused n p))) ≡ Truth v e
+        go : (a b c : Bool) (x y : Condition) (n p : ℕ) → cond a x (cond b y (cond c (Err (fault 7 q)) (Err (fault n p)))) ≡ Ok (v, e)
+            → cond a x (cond b y (cond c (Err (fault 7 0)) (Err (fault n p)))) ≡ Ok (v, e)
         go true b c x y n p h = h
         go false true c x y n p h = h
         go false false true x y n p h = let z : ◌≡◌ {A = ℕ} 0 1 = cc in absurd (omega arith)
         go false false false x y n p h = h
 
-    module _ (t : Token) (v : Bool) (e : ℕ) (q : condition_at s defined t ≡ Truth v e) where
+    module _ (t : Token) (v : Bool) (e : ℕ) (q : condition_at s defined t ≡ Ok (v, e)) where
       -- a conditional word and its condition stand on one line
       pub condition_level : t.end ≤ length s → Level s t.end e
       unfolding condition_at ReadIn
@@ -227,7 +227,7 @@ module _ (s : List ℕ) where
       unfolding condition_at name_at bytes begins
       none_past l =
           let a : length s ≤ t.end = omega arith in
-          let z : Refused 7 t.at ≡ Truth v e = rw (start_out s t.end a, drop_of_length-le s a, token_past in_file s t.end a) at q in
+          let z : ◌≡◌ {A = Condition} (Err (fault 7 t.at)) (Ok (v, e)) = rw (start_out s t.end a, drop_of_length-le s a, token_past in_file s t.end a) at q in
           let y : ◌≡◌ {A = ℕ} 0 1 = cc in
           omega arith
 

@@ -6,12 +6,11 @@ use mathlib.Core.List.{List, []}
 use mathlib.Core.Path.{◌≡◌, refl, ap}
 use native.Mathlib.Omega.{arith}
 use lib.ListN.{length}
+use Rattle.std.specs.Prelude.{Ok, Err}
 use Rattle.text.specs.Bytes.{bytes, holds}
 use Rattle.places.proofs.Levels.{word_level}
 use Rattle.directive.specs.Words.{word_start}
-use Rattle.conditions.specs.declared.Condition.{Condition}
-use Rattle.conditions.specs.declared.Condition.TheVariants.{Truth, Refused}
-use Rattle.conditions.specs.Grammar.{on_truth, mapped, Operator, none_here, operator, stands, spaced, joined, chain, negated}
+use Rattle.conditions.specs.Grammar.{Condition, on_truth, mapped, Operator, none_here, operator, stands, spaced, joined, chain, negated}
 use Rattle.conditions.proofs.Parts.{ReadIn, start_level, OperatorIn}
 
 module _ (s : List ℕ) (op : ℕ → Operator) (ops : (p : ℕ) → OperatorIn s p (op p)) (one : ℕ → Condition) (reads : (j : ℕ) → j ≤ length s → ReadIn s j (one j)) where
@@ -26,8 +25,8 @@ module _ (s : List ℕ) (op : ℕ → Operator) (ops : (p : ℕ) → OperatorIn 
 
     goes_on : (r : Condition) → ReadIn s i r → on_truth r (λ v p. joined s (op p) v p (λ q. chain s op one n q)) ≡ on_truth r (λ v p. joined s (op p) v p (λ q. chain s op one k q))
     unfolding ReadIn
-    goes_on (Truth v p) h = joins (op p) v p h.0 (ops p)
-    goes_on (Refused m p) h = refl
+    goes_on (Ok x) h = joins (op x.1) x.0 x.1 h.0 (ops x.1)
+    goes_on (Err g) h = refl
 
   enough : (n k i : ℕ) → i ≤ length s → length s - i < n → length s - i < k → chain s op one n i ≡ chain s op one k i
   unfolding chain

@@ -3,8 +3,7 @@
 use Rattle.std.specs.Prelude.{ℕ, Bool, cond, not, List, ◌≡◌}
 use Rattle.definition.specs.Definitions.{Macro}
 use Rattle.store.specs.Buffers.{Holds}
-use Rattle.conditions.specs.declared.Condition.{Condition}
-use Rattle.conditions.specs.Grammar.{is_defined}
+use Rattle.conditions.specs.Grammar.{Condition, is_defined}
 
 -- negated after an odd number of `!`
 abbrev pub differs : Bool → Bool → Bool

@@ -1,4 +1,5 @@
-// The condition of `ifdef`, `ifndef` and `elsif` (document 02, P1): a name, or names with operators in parentheses.
+// The condition of `ifdef`, `ifndef` and `elsif` (document 02, P1): a name, or names with operators in parentheses. A
+// condition or a part of it is read as its value and where it ends, or refused.
 #![tactic(auto)]
 
 ghost use Rattle.std.specs.Prelude.{◌≡◌, Bool, List, [], ◌∷◌, ◌<◌, ◌≤◌, length, drop};
@@ -10,26 +11,15 @@ ghost use Rattle.conditions.specs.Grammar.{is_defined, mapped, unfit, spaced, na
 ghost use Rattle.conditions.specs.Reading.{differs, Reads};
 
 use directive::word_start;
-use lex::{ESCAPED, NAME, Token, in_file, token_at};
+use lex::{ESCAPED, Fault, NAME, Token, fault_of, in_file, token_at};
 use store::find;
 use text::{part_of, peek};
-
-// A condition or a part of it: its value, and where it ends; or refused, with the place.
-#[derive(Clone, Copy)]
-pub enum Condition {
-    Truth(bool, usize),
-    Refused(usize, usize),
-}
 
 // Whether a macro of the name `w` is defined.
 fn is_defined(bytes: &[u8], records: &[[u32; 4]], macros: usize, w: &[u8]) -> bool
     ensures { (ms : List Macro) → Holds ms bytes.now records.now macros → result ≡ is_defined ms w.now }
 {
-    let f = find(bytes, records, macros, w);
-    match f {
-        Ok(_) => true,
-        Err(_) => false,
-    }
+    find(bytes, records, macros, w).is_ok()
 }
 
 // Where the next token from `at` on stands, on this line.
@@ -44,13 +34,13 @@ fn next_token(s: &[u8], at: usize) -> usize
 }
 
 // The token `t` does not fit: 2 to 6 where one of them bars it, else 7 at `place`.
-fn refuse(t: Token, place: usize) -> Condition
+fn refuse(t: Token, place: usize) -> Result<(bool, usize), Fault>
     ensures { result ≡ unfit t place }
 {
     if t.bar != 0 {
-        return Condition::Refused(t.bar, t.at);
+        return Err(fault_of(t));
     }
-    Condition::Refused(7, place)
+    Err(Fault { number: 7, place })
 }
 
 // Whether the bytes `a` and `b` stand at `at`.
@@ -83,13 +73,13 @@ fn name_at(
     bytes: &[u8],
     records: &[[u32; 4]],
     macros: usize,
-) -> Condition
+) -> Result<(bool, usize), Fault>
     ensures { Reads result (λ d. name_at s.now d place at) bytes.now records.now macros }
 {
     let t = token_at(s, at, in_file());
     if (t.bar == 0) & ((t.kind == NAME) | (t.kind == ESCAPED)) {
         let is = is_defined(bytes, records, macros, part_of(s, t.from, t.end));
-        return Condition::Truth(is, t.end);
+        return Ok((is, t.end));
     }
     refuse(t, place)
 }
@@ -103,33 +93,29 @@ fn parentheses(
     bytes: &[u8],
     records: &[[u32; 4]],
     macros: usize,
-) -> Condition
+) -> Result<(bool, usize), Fault>
     requires { (at < length s.now) × Stored bytes.now records.now macros }
     ensures { Reads result (λ d. parentheses_at s.now d left at) bytes.now records.now macros }
 {
     if left == 0 {
-        return Condition::Refused(7, at);
+        return Err(Fault {
+            number: 7,
+            place: at,
+        });
     }
-    let r = arrows(s, next_token(s, at + 1), left - 1, bytes, records, macros);
-    match r {
-        Condition::Truth(v, p) => {
-            if peek(s, p) == 41 {
-                return Condition::Truth(v, p + 1);
-            }
-            refuse(token_at(s, p, in_file()), p)
-        }
-        Condition::Refused(n, p) => Condition::Refused(n, p),
+    let (v, p) = arrows(s, next_token(s, at + 1), left - 1, bytes, records, macros)?;
+    if peek(s, p) == 41 {
+        return Ok((v, p + 1));
     }
+    refuse(token_at(s, p, in_file()), p)
 }
 
 // The operand `x`, negated if `odd`, up to the next token.
-fn behind(s: &[u8], x: Condition, odd: bool) -> Condition
+fn behind(s: &[u8], x: Result<(bool, usize), Fault>, odd: bool) -> Result<(bool, usize), Fault>
     ensures { result ≡ mapped (differs odd) (spaced s.now x) }
 {
-    match x {
-        Condition::Truth(v, p) => Condition::Truth(v != odd, next_token(s, p)),
-        Condition::Refused(n, p) => Condition::Refused(n, p),
-    }
+    let (v, p) = x?;
+    Ok((v != odd, next_token(s, p)))
 }
 
 // A name or a condition in parentheses, behind any number of `!`, up to the next token.
@@ -141,7 +127,7 @@ fn nots(
     bytes: &[u8],
     records: &[[u32; 4]],
     macros: usize,
-) -> Condition
+) -> Result<(bool, usize), Fault>
     requires { (at ≤ length s.now) × Stored bytes.now records.now macros }
     ensures { Reads result (λ d. nots_by s.now d (parentheses_at s.now d left) at) bytes.now records.now macros }
 {
@@ -166,27 +152,19 @@ fn ands(
     bytes: &[u8],
     records: &[[u32; 4]],
     macros: usize,
-) -> Condition
+) -> Result<(bool, usize), Fault>
     requires { (at ≤ length s.now) × Stored bytes.now records.now macros }
     ensures { Reads result (λ d. ands_by s.now d (parentheses_at s.now d left) at) bytes.now records.now macros }
 {
     let mut i = at;
     let mut all = true;
     loop {
-        let r = nots(s, i, left, bytes, records, macros);
-        match r {
-            Condition::Truth(v, p) => {
-                all = all & v;
-                if !pair_at(s, p, 38, 38) {
-                    return Condition::Truth(all, p);
-                }
-                i = next_token(s, p + 2);
-                continue;
-            }
-            Condition::Refused(n, p) => {
-                return Condition::Refused(n, p);
-            }
+        let (v, p) = nots(s, i, left, bytes, records, macros)?;
+        all = all & v;
+        if !pair_at(s, p, 38, 38) {
+            return Ok((all, p));
         }
+        i = next_token(s, p + 2);
     }
 }
 
@@ -199,27 +177,19 @@ fn ors(
     bytes: &[u8],
     records: &[[u32; 4]],
     macros: usize,
-) -> Condition
+) -> Result<(bool, usize), Fault>
     requires { (at ≤ length s.now) × Stored bytes.now records.now macros }
     ensures { Reads result (λ d. ors_by s.now d (parentheses_at s.now d left) at) bytes.now records.now macros }
 {
     let mut i = at;
     let mut any = false;
     loop {
-        let r = ands(s, i, left, bytes, records, macros);
-        match r {
-            Condition::Truth(v, p) => {
-                any = any | v;
-                if !pair_at(s, p, 124, 124) {
-                    return Condition::Truth(any, p);
-                }
-                i = next_token(s, p + 2);
-                continue;
-            }
-            Condition::Refused(n, p) => {
-                return Condition::Refused(n, p);
-            }
+        let (v, p) = ands(s, i, left, bytes, records, macros)?;
+        any = any | v;
+        if !pair_at(s, p, 124, 124) {
+            return Ok((any, p));
         }
+        i = next_token(s, p + 2);
     }
 }
 
@@ -233,7 +203,7 @@ fn arrows(
     bytes: &[u8],
     records: &[[u32; 4]],
     macros: usize,
-) -> Condition
+) -> Result<(bool, usize), Fault>
     requires { (at ≤ length s.now) × Stored bytes.now records.now macros }
     ensures { Reads result (λ d. arrows_by s.now d (parentheses_at s.now d left) at) bytes.now records.now macros }
 {
@@ -241,27 +211,20 @@ fn arrows(
     let mut no = false;
     let mut yes = true;
     loop {
-        let r = ors(s, i, left, bytes, records, macros);
-        match r {
-            Condition::Truth(v, p) => {
-                if pair_at(s, p, 45, 62) {
-                    no = (v & no) | (!v & yes);
-                    i = next_token(s, p + 2);
-                    continue;
-                }
-                if triple_at(s, p, 60, 45, 62) {
-                    let was = no;
-                    no = (v & no) | (!v & yes);
-                    yes = (v & yes) | (!v & was);
-                    i = next_token(s, p + 3);
-                    continue;
-                }
-                return Condition::Truth((v & yes) | (!v & no), p);
-            }
-            Condition::Refused(n, p) => {
-                return Condition::Refused(n, p);
-            }
+        let (v, p) = ors(s, i, left, bytes, records, macros)?;
+        if pair_at(s, p, 45, 62) {
+            no = (v & no) | (!v & yes);
+            i = next_token(s, p + 2);
+            continue;
         }
+        if triple_at(s, p, 60, 45, 62) {
+            let was = no;
+            no = (v & no) | (!v & yes);
+            yes = (v & yes) | (!v & was);
+            i = next_token(s, p + 3);
+            continue;
+        }
+        return Ok(((v & yes) | (!v & no), p));
     }
 }
 
@@ -272,7 +235,7 @@ pub fn condition_at(
     bytes: &[u8],
     records: &[[u32; 4]],
     macros: usize,
-) -> Condition
+) -> Result<(bool, usize), Fault>
     requires { Stored bytes.now records.now macros }
     ensures { Reads result (λ d. condition_at s.now d t) bytes.now records.now macros }
 {

@@ -1,6 +1,6 @@
 -- Tokens copied from a file or skipped, one after the other.
 -- Assumes nothing.
-use Rattle.std.specs.Prelude.{ℕ, ◌+◌, ◌<◌, ◌≤◌, Bool, true, false, ◌≡◌, List, [], ◌++◌, length}
+use Rattle.std.specs.Prelude.{ℕ, ◌+◌, ◌≤◌, true, false, ◌≡◌, List, [], ◌++◌, length}
 use Rattle.text.specs.Bytes.{part}
 use Rattle.lex.specs.Tokens.{in_file, token_at}
 use Rattle.lex.specs.declared.Token.{Token}

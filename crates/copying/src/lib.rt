@@ -29,7 +29,8 @@ pub struct Cursor {
     pub comment: bool,
 }
 
-// Where reading and writing stand before a token that is not copied; or there is no room for one.
+// Where reading and writing stand before a token that is not copied; or there is no room for one. An enum and no `Result`,
+// which is no plainer: both say where reading and writing stand, and no caller passes the second on.
 #[derive(Clone, Copy)]
 pub enum Copied {
     Upto(Cursor, Spot, Token),
@@ -103,11 +104,7 @@ fn copy_bytes(w: &[u8], text: &mut [u8], n: usize)
     requires { n + length w.now ≤ length text.old }
     ensures { text.new ≡ sets text.old n w.now }
 {
-    let mut i = 0;
-    while i < w.len() {
-        text[n + i] = w[i];
-        i += 1;
-    }
+    text[n..n + w.len()].copy_from_slice(w);
 }
 
 // Writes `w`, which has no newline and is not empty, whole.

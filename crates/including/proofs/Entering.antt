@@ -7,9 +7,11 @@ use mathlib.Core.Path.{◌≡◌}
 use native.Mathlib.Omega.{arith}
 use lib.Dec.{eqb}
 use lib.ListN.{length, get_or}
+use Rattle.std.specs.Prelude.{Ok, Err}
 use borrow.Author.Tests.{eq-eqb, ne_eqb, le-leb, lt-leb}
 use Rattle.text.specs.Bytes.{part}
 use Rattle.lex.specs.declared.Token.{Token}
+use Rattle.lex.specs.Faults.{fault}
 use Rattle.lex.proofs.Progress.{Inside}
 use Rattle.directive.specs.declared.FileName.TheVariants.{Unnamed, Quoted, Angled}
 use Rattle.directive.specs.declared.IncludeLine.{IncludeLine}
@@ -20,9 +22,7 @@ use Rattle.turns.specs.Acts.{enter_act, include_act}
 use Rattle.turns.specs.Asking.{EndsIn}
 use Rattle.turns.proofs.Forms.{include_inside}
 use Rattle.turns.proofs.Asking.{ends_at}
-use Rattle.including.specs.declared.Entered.{Entered}
-use Rattle.including.specs.declared.Entered.TheVariants as entered
-use Rattle.including.specs.Including.{IncludeHere, EnteredBy}
+use Rattle.including.specs.Including.{Entered, IncludeHere, EnteredBy}
 
 -- no file of that form and name may be included on this line
 abbrev pub barred_by : Bool → IncludeLine → ℕ → List ℕ → Bool
@@ -35,17 +35,17 @@ module _ (store : List ℕ) (table : List (List ℕ)) (s : List ℕ) (t : Token)
     Enter r = (h : Here) → IncludeHere h store table s t other depth → EndsIn h l.end → EnteredBy r h (enter_act h l form w) table depth
 
     -- 9: the line or the name bars it
-    pub enter_barred : barred_by other l form w ≡ true → Enter (entered.Refused 9 t.at)
+    pub enter_barred : barred_by other l form w ≡ true → Enter (Err (fault 9 t.at))
     enter_barred e h x y = (rw (x.other_is, e, x.token_is), omega arith)
 
     module _ (i : ℕ) (e : barred_by other l form w ≡ false) (f : i ≡ entry_of store form w table) where
       -- 9: no entry of the table has it
-      pub enter_missing : length table ≤ i → Enter (entered.Refused 9 t.at)
+      pub enter_missing : length table ≤ i → Enter (Err (fault 9 t.at))
       enter_missing g h x y = (rw (x.other_is, e, x.store_is, x.table_is, ← f, le-leb (length table) i g, x.token_is), omega arith)
 
       module _ (g : i < length table) where
         -- 10: 16 files are open
-        pub enter_deep : 16 ≤ depth → Enter (entered.Refused 10 t.at)
+        pub enter_deep : 16 ≤ depth → Enter (Err (fault 10 t.at))
         enter_deep d h x y =
             let k : length h.others ≡ depth - 1 = x.depth_is in (
               rw (x.other_is, e, x.store_is, x.table_is, ← f, lt-leb (length table) i g, le-leb 15 (length h.others) (omega arith), x.token_is),
@@ -53,7 +53,7 @@ module _ (store : List ℕ) (table : List (List ℕ)) (s : List ℕ) (t : Token)
             )
 
         -- the file is entered
-        pub enter_into : 0 < depth → depth < 16 → Enter (entered.Into i l.end)
+        pub enter_into : 0 < depth → depth < 16 → Enter (Ok (i, l.end))
         enter_into p d h x y =
             let k : length h.others ≡ depth - 1 = x.depth_is in
             record {
@@ -69,12 +69,12 @@ module _ (store : List ℕ) (table : List (List ℕ)) (s : List ℕ) (t : Token)
     Include r = (h : Here) → IncludeHere h store table s t other depth → EnteredBy r h (include_act h (include_at s t.end)) table depth
 
     -- 2 to 6 on the line
-    pub include_barred : (l.bars.number ≡ 0 → ⊥) → Include (entered.Refused l.bars.number l.bars.place)
+    pub include_barred : (l.bars.number ≡ 0 → ⊥) → Include (Err l.bars)
     include_barred n h x = (rw (← q, ne_eqb l.bars.number 0 n), omega (arith, n))
 
     module _ (n : l.bars.number ≡ 0) where
       -- 7: no file is named
-      pub include_unnamed : l.file ≡ Unnamed → Include (entered.Refused 7 t.at)
+      pub include_unnamed : l.file ≡ Unnamed → Include (Err (fault 7 t.at))
       include_unnamed f h x = (rw (← q, eq-eqb l.bars.number 0 n, f, x.token_is), omega arith)
 
       line_ends : (h : Here) → IncludeHere h store table s t other depth → EndsIn h l.end

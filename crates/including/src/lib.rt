@@ -1,4 +1,4 @@
-// Includes (document 01, "Directives"): which file is entered, or 7, 9, 10, or 2 to 6 of the line.
+// Includes (document 01, "Directives"): which entry is included and where the directive ends, or 7, 9, 10, or 2 to 6 of the line.
 #![tactic(auto)]
 
 ghost use Rattle.std.specs.Prelude.{◌≡◌, ◌&&◌, ◌||◌, ◌<◌, eqb, get_or};
@@ -11,15 +11,8 @@ ghost use Rattle.including.specs.Including.{IncludeHere, EnteredBy};
 
 use directive::{FileName, IncludeLine, include_at};
 use handover::entry_of;
-use lex::Token;
+use lex::{Fault, Token};
 use text::{part_of, peek};
-
-// The entry that is included, and where the directive ends; or refused, with the place.
-#[derive(Clone, Copy)]
-pub enum Entered {
-    Into(usize, usize),
-    Refused(usize, usize),
-}
 
 // Whether no file of that form and name may be included here: other text on the line, or a `/` name in angle brackets.
 fn is_barred(other: bool, l: IncludeLine, form: u32, w: &[u8]) -> bool
@@ -40,22 +33,31 @@ fn enter(
     form: u32,
     from: usize,
     end: usize,
-) -> Entered
+) -> Result<(usize, usize), Fault>
     requires { 0 < depth }
     ensures { (h : Here) → IncludeHere h store.now table.now s.now t other depth → EndsIn h l.end → EnteredBy result h (enter_act h l form (part s.now from end)) table.now depth }
 {
     let w = part_of(s, from, end);
     if is_barred(other, l, form, w) {
-        return Entered::Refused(9, t.at);
+        return Err(Fault {
+            number: 9,
+            place: t.at,
+        });
     }
     let i = entry_of(store, table, form, w);
     if table.len() <= i {
-        return Entered::Refused(9, t.at);
+        return Err(Fault {
+            number: 9,
+            place: t.at,
+        });
     }
     if 16 <= depth {
-        return Entered::Refused(10, t.at);
+        return Err(Fault {
+            number: 10,
+            place: t.at,
+        });
     }
-    Entered::Into(i, l.end)
+    Ok((i, l.end))
 }
 
 // The include whose word is `t` of the file `s`, the innermost of `depth` open ones.
@@ -66,18 +68,21 @@ pub fn include(
     t: Token,
     other: bool,
     depth: usize,
-) -> Entered
+) -> Result<(usize, usize), Fault>
     requires { 0 < depth }
     ensures { (h : Here) → IncludeHere h store.now table.now s.now t other depth → EnteredBy result h (include_act h (include_at s.now t.end)) table.now depth }
 {
     let l = include_at(s, t.end);
     let b = l.bars;
     if b.number != 0 {
-        return Entered::Refused(b.number, b.place);
+        return Err(b);
     }
     let f = l.file;
     match f {
-        FileName::Unnamed => Entered::Refused(7, t.at),
+        FileName::Unnamed => Err(Fault {
+            number: 7,
+            place: t.at,
+        }),
         FileName::Quoted(a, e) => enter(store, table, s, t, other, depth, l, 0, a, e),
         FileName::Angled(a, e) => enter(store, table, s, t, other, depth, l, 1, a, e),
     }

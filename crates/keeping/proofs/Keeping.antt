@@ -6,8 +6,10 @@ use mathlib.Core.Path.{◌≡◌, refl, sym, ap, ◌∙◌, subst}
 use native.Mathlib.Omega.{arith}
 use lib.Dec.{ltb}
 use lib.ListN.{length, length-take, length-drop}
+use Rattle.std.specs.Prelude.{Ok, Err}
 use Rattle.text.specs.Bytes.{part}
 use Rattle.lex.specs.declared.Token.{Token}
+use Rattle.lex.specs.Faults.{fault}
 use Rattle.lex.proofs.Tests.{by_test}
 use Rattle.lex.proofs.Progress.{Inside}
 use Rattle.directive.specs.declared.Value.{Value}
@@ -27,7 +29,6 @@ use Rattle.turns.specs.Performing.{perform}
 use Rattle.turns.proofs.Forms.{form_inside, form_bars}
 use Rattle.turns.specs.Asking.{EndsIn}
 use Rattle.turns.proofs.Asking.{ends_at}
-use Rattle.keeping.specs.declared.Kept.TheVariants as kept
 use Rattle.keeping.specs.Keeping.{KeepHere, Keepable, KeptBy}
 
 PutSome : Put → Type 0
@@ -78,10 +79,10 @@ module _ (d : ℕ) {h : Here} {s : List ℕ} {t : Token} {set place : ℕ} {c : 
   refuse_is : (n : ℕ) → refuse_at h n h.token.at ≡ refuse_at h n t.at
   refuse_is n = ap (λ (x : Token). refuse_at h n x.at) k.token_is
 
-  pub kept_unformed : f ≡ Unformed → KeptBy (kept.Refused 7 t.at) h (keep_act d h) text text map map z
+  pub kept_unformed : f ≡ Unformed → KeptBy (Err (fault 7 t.at)) h (keep_act d h) text text map map z
   kept_unformed e = (turn_of e ∙ refuse_is 7, omega arith, refl, refl)
 
-  pub kept_barred : (n p : ℕ) → f ≡ Barred n p → KeptBy (kept.Refused n p) h (keep_act d h) text text map map z
+  pub kept_barred : (n p : ℕ) → f ≡ Barred n p → KeptBy (Err (fault n p)) h (keep_act d h) text text map map z
   kept_barred n p e = (turn_of e, omega (arith, (form_bars s d t.end n p (sym found ∙ e)).low), refl, refl)
 
   -- v, e: what it says and its end; w: its bytes; r: the answer to writing them
@@ -102,13 +103,13 @@ module _ (d : ℕ) {h : Here} {s : List ℕ} {t : Token} {set place : ℕ} {c : 
         ends_at h e b
 
     module _ (text' map' : List ℕ) {r : Wrote} (wrote : WroteBy r (placed 1 place w) text text' map map' z) where
-      pub kept_full : {n : ℕ} → r ≡ Full n → KeptBy (kept.Refused n t.at) h (keep_act d h) text text' map map' z
+      pub kept_full : {n : ℕ} → r ≡ Full n → KeptBy (Err (fault n t.at)) h (keep_act d h) text text' map map' z
       kept_full {n} i =
           let o : WroteBy (Full n) (placed 1 place w) text text' map map' z =
           subst (λ (x : Wrote). WroteBy x (placed 1 place w) text text' map map' z) i wrote in
           (turn_put o.0 ∙ refuse_is n, put_number (room_of (length text) (length map) z) (placed 1 place w) n o.0, o.1, o.2)
 
-      pub kept_to : {y : Spot} → r ≡ Upto y → {c' : Settings} → c' ≡ set_by v set c → KeptBy (kept.To c' y e) h (keep_act d h) text text' map map' z
+      pub kept_to : {y : Spot} → r ≡ Upto y → {c' : Settings} → c' ≡ set_by v set c → KeptBy (Ok (c', y, e)) h (keep_act d h) text text' map map' z
       kept_to {y} i {c'} j =
           let o : WroteBy (Upto y) (placed 1 place w) text text' map map' z =
           subst (λ (x : Wrote). WroteBy x (placed 1 place w) text text' map map' z) i wrote in

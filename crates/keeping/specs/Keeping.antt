@@ -1,6 +1,7 @@
 -- What the code answers to a directive that is copied and kept as state.
 -- Assumes nothing.
-use Rattle.std.specs.Prelude.{ℕ, ◌<◌, ◌≤◌, ◌≡◌, List, length}
+use Rattle.std.specs.Prelude.{ℕ, ◌<◌, ◌≤◌, ◌≡◌, List, length, Result, Ok, Err}
+use Rattle.lex.specs.declared.Fault.{Fault}
 use Rattle.lex.specs.declared.Token.{Token}
 use Rattle.settings.specs.declared.Settings.{Settings}
 use Rattle.writing.specs.Written.{Written}
@@ -10,8 +11,6 @@ use Rattle.turns.specs.States.{more, Here, refuse_at, behind, place_here, writes
 use Rattle.turns.specs.Acts.{Act}
 use Rattle.turns.specs.Asking.{EndsIn}
 use Rattle.turns.specs.Performing.{perform}
-use Rattle.keeping.specs.declared.Kept.{Kept}
-use Rattle.keeping.specs.declared.Kept.TheVariants as kept
 
 -- the directive t stands here, with the state c and writing at z
 pub record KeepHere (h : Here) (s : List ℕ) (t : Token) (set place : ℕ) (c : Settings) (text map : List ℕ) (z : Spot) : Type 0 where
@@ -48,6 +47,10 @@ pub record Keeps (h : Here) (a : Act) (text text' map map' : List ℕ) (c' : Set
   pub in_text : z'.written ≤ length text
   pub in_map : z'.lines ≤ length map
 
+-- the state, where writing stands and the directive's end; or a refusal
+abbrev pub Kept : Type 0
+Kept = Result (Settings × Spot × ℕ) Fault
+
 abbrev pub KeptBy : Kept → Here → Act → List ℕ → List ℕ → List ℕ → List ℕ → Spot → Type 0
-KeptBy (kept.To c' z' e) h a text text' map map' z = Keeps h a text text' map map' c' z z' e
-KeptBy (kept.Refused n p) h a text text' map map' z = (perform h a ≡ refuse_at h n p) × (0 < n) × (text' ≡ text) × (map' ≡ map)
+KeptBy (Ok x) h a text text' map map' z = Keeps h a text text' map map' x.0 z x.1 x.2
+KeptBy (Err f) h a text text' map map' z = (perform h a ≡ refuse_at h f.number f.place) × (0 < f.number) × (text' ≡ text) × (map' ≡ map)

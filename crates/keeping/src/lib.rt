@@ -7,19 +7,12 @@ ghost use Rattle.turns.specs.Acts.{keep_act};
 ghost use Rattle.keeping.specs.Keeping.{KeepHere, Keepable, KeptBy};
 
 use directive::{Form, form_at};
-use lex::Token;
+use lex::{Fault, Token};
 use settings::{Settings, set_by};
 use text::part_of;
 use writing::{Spot, Wrote, write_whole};
 
-// The state and where writing stands behind a directive, and its end; or refused, with the place.
-#[derive(Clone, Copy)]
-pub enum Kept {
-    To(Settings, Spot, usize),
-    Refused(usize, usize),
-}
-
-// The directive `d` whose word is `t` of the file `s`, at a place.
+// The directive `d` whose word is `t` of the file `s`, at a place: the state and where writing stands behind it, and its end.
 pub fn keep(
     d: usize,
     s: &[u8],
@@ -30,7 +23,7 @@ pub fn keep(
     text: &mut [u8],
     map: &mut [u32],
     z: Spot,
-) -> Kept
+) -> Result<(Settings, Spot, usize), Fault>
     requires { Keepable s.now place text.old map.old z }
     ensures { (h : Here) → KeepHere h s.now t set place c text.old map.old z → KeptBy result h (keep_act d h) text.old text.new map.old map.new z }
 {
@@ -40,11 +33,20 @@ pub fn keep(
             let x = set_by(v, set, c);
             let r = write_whole(part_of(s, t.at, e), place, 1, text, map, z);
             match r {
-                Wrote::Upto(y) => Kept::To(x, y, e),
-                Wrote::Full(k) => Kept::Refused(k, t.at),
+                Wrote::Upto(y) => Ok((x, y, e)),
+                Wrote::Full(k) => Err(Fault {
+                    number: k,
+                    place: t.at,
+                }),
             }
         }
-        Form::Unformed => Kept::Refused(7, t.at),
-        Form::Barred(n, p) => Kept::Refused(n, p),
+        Form::Unformed => Err(Fault {
+            number: 7,
+            place: t.at,
+        }),
+        Form::Barred(n, p) => Err(Fault {
+            number: n,
+            place: p,
+        }),
     }
 }

@@ -8,11 +8,11 @@ use mathlib.Core.Path.{◌≡◌, refl, subst}
 use native.Mathlib.Omega.{arith}
 use lib.Dec.{eqb}
 use lib.ListN.{length}
+use Rattle.std.specs.Prelude.{Ok, Err}
 use Rattle.lex.proofs.Tests.{by_test}
 use Rattle.names.specs.Names.{Ifdef, Elsif, Else, Endif}
 use Rattle.places.proofs.Levels.{Level, level_here}
-use Rattle.conditions.specs.declared.Condition.{Condition}
-use Rattle.conditions.specs.declared.Condition.TheVariants.{Truth, Refused}
+use Rattle.conditions.specs.Grammar.{Condition}
 use Rattle.conditions.proofs.Parts.{condition_level}
 use Rattle.blocks.specs.Blocks.{Conditional, open_block, next_block, close_block}
 use Rattle.turns.specs.States.{Here}
@@ -34,8 +34,8 @@ module _ (h : Here) (w : h.token.end ≤ length h.body) where
   blocks_on e (some cs) l = λ ds f q. let z : e ≡ f = cc in subst (Level h.body h.token.end) z l
 
   condition_on : (c : Condition) (k : Bool → ℕ → Act) → condition_here h ≡ c → ((v : Bool) (e : ℕ) → Level h.body h.token.end e → On (k v e)) → On (on_condition c k)
-  condition_on (Truth v e) k q g = g v e (condition_level h.body (is_defined_here h) h.token v e q w)
-  condition_on (Refused n p) k q g = refuses_on n p
+  condition_on (Ok x) k q g = g x.0 x.1 (condition_level h.body (is_defined_here h) h.token x.0 x.1 q w)
+  condition_on (Err f) k q g = refuses_on f.number f.place
 
   conditional_on : (d : ℕ) → On (conditional_act d h)
   unfolding conditional_act

@@ -8,9 +8,11 @@ use native.Mathlib.Nat.{add-zero}
 use native.Mathlib.Omega.{arith}
 use lib.Dec.{eqb, leb, ltb}
 use lib.ListN.{length}
+use Rattle.std.specs.Prelude.{Ok, Err}
 use borrow.Author.Tests.{ltb-true, ltb-false, lt-leb}
 use Rattle.text.specs.Bytes.{part}
 use Rattle.lex.specs.Tokens.{in_file, Grave, Newline, String, BlockComment, is, name_of}
+use Rattle.lex.specs.declared.Fault.{Fault}
 use Rattle.lex.specs.declared.Token.{Token}
 use Rattle.lex.proofs.Progress.{token_ends, token_within, token_some}
 use Rattle.names.specs.Names.{Ifdef, Endif, directive_of}
@@ -37,9 +39,7 @@ use Rattle.turns.specs.Performing.{perform}
 use Rattle.turns.specs.Turns.{turn_at}
 use Rattle.turns.specs.Leading.{Leads, standing}
 use Rattle.turns.proofs.Leading.{leads_append}
-use Rattle.choosing.specs.Choosing.{Word, Chooses, ChosenBy}
-use Rattle.choosing.specs.declared.Chosen.{Chosen}
-use Rattle.choosing.specs.declared.Chosen.TheVariants as chosen
+use Rattle.choosing.specs.Choosing.{Chosen, Word, Chooses, ChosenBy}
 use Rattle.reading.specs.declared.Reached.{Reached}
 use Rattle.reading.specs.declared.Reached.TheVariants as reached
 use Rattle.reading.specs.Reading.{SkippedBy, PassedBy, ReadsTo, ReachedBy, StaysBy}
@@ -223,8 +223,8 @@ module _ {s : List ℕ} {file : ℕ} {b : List ℕ} {rs : List (List ℕ)} {n : 
         some_word : ChosenBy x (conditional_act d (here_on nowhere [] stored.macros (reset_to 0) 0 file s c (open_in w k.open) no_room)) w w'
         some_word = at_word nowhere [] stored.macros (reset_to 0) 0 no_room stored.holds
 
-        pub answers_refused : {i p : ℕ} → x ≡ chosen.Refused i p → Answers (reached.Refused c z k i p) s file b rs n w₀ w' text₀ text map₀ map c₀ z₀ k₀
-        answers_refused {i} {p} y =
+        pub answers_refused : {g : Fault} → x ≡ Err g → Answers (reached.Refused c z k g.number g.place) s file b rs n w₀ w' text₀ text map₀ map c₀ z₀ k₀
+        answers_refused y =
             let same : w' ≡ w = (rw y at some_word).1 in
             rw same (
               record { copyable = o.onward.copyable; blocks_are = o.onward.blocks_are },
@@ -234,7 +234,7 @@ module _ {s : List ℕ} {file : ℕ} {b : List ℕ} {rs : List (List ℕ)} {n : 
               ),
             )
 
-        module _ {k' : Blocks} {e : ℕ} (y : x ≡ chosen.To k' e) where
+        module _ {k' : Blocks} {e : ℕ} (y : x ≡ Ok (k', e)) where
           chooses : Chooses (conditional_act d (here_on nowhere [] stored.macros (reset_to 0) 0 file s c (open_in w k.open) no_room)) w' k' e
           chooses = rw y at some_word
 

@@ -13,7 +13,7 @@ ghost use Rattle.turns.specs.States.{Context, Frame};
 ghost use Rattle.reading.specs.Reading.{StaysBy, ReachedBy, PassedBy};
 
 use blocks::Blocks;
-use choosing::{Chosen, choose};
+use choosing::choose;
 use copying::{Copied, Cursor, copy_tokens, skip_tokens};
 use lex::Token;
 use names::{ENDIF, IFDEF, directive_of};
@@ -22,7 +22,7 @@ use text::part_of;
 use writing::Spot;
 
 // Where reading stands before a token that is neither copied nor skipped and no conditional word, with its directive; or
-// refused, with the place.
+// refused, with the place. An enum and no `Result`, which is no plainer: both say where reading and writing stand.
 #[derive(Clone, Copy)]
 pub enum Reached {
     Upto(Cursor, Spot, Blocks, Token, usize),
@@ -100,14 +100,13 @@ pub fn read_on(
                 }
                 let x = choose(d, s, t, file, conds, bytes, records, macros, k);
                 match x {
-                    Chosen::To(j, p) => {
+                    Ok((j, p)) => {
                         k = j;
                         c = cursor_behind(e, p);
                         y = z;
-                        continue;
                     }
-                    Chosen::Refused(n, p) => {
-                        return Reached::Refused(e, z, k, n, p);
+                    Err(f) => {
+                        return Reached::Refused(e, z, k, f.number, f.place);
                     }
                 }
             }

@@ -9,6 +9,8 @@ use lib.Dec.{eqb}
 use lib.ListN.{length, get_or, set, length-set}
 use lib.Seq.{get_or-set_same, get_or-set_other}
 use borrow.Author.Tests.{eqb-true, eqb-false}
+use Rattle.std.specs.Prelude.{Ok as well, Err as refused}
+use Rattle.lex.specs.declared.Fault.{Fault}
 use Rattle.lex.specs.declared.Token.{Token}
 use Rattle.lex.specs.Tokens.{in_file}
 use Rattle.lex.proofs.Tests.{true_false}
@@ -32,9 +34,7 @@ use Rattle.turns.specs.States.{Context, Frame, State, Made, nothing, writes, Tur
 use Rattle.turns.specs.Acts as acts
 use Rattle.turns.specs.Acts.{include_act}
 use Rattle.turns.specs.Performing.{perform}
-use Rattle.including.specs.declared.Entered.{Entered}
-use Rattle.including.specs.declared.Entered.TheVariants as entered
-use Rattle.including.specs.Including.{IncludeHere, Enters, EnteredBy}
+use Rattle.including.specs.Including.{Entered, IncludeHere, Enters, EnteredBy}
 use Rattle.keeping.proofs.Keeping.{put_number}
 use Rattle.steps.specs.declared.stage.Stage.{Stage}
 use Rattle.steps.specs.declared.stage.Step.{Step}
@@ -287,7 +287,7 @@ frames_ok fs es fr d v p l o f k h = go (eqb k (d - 1)) refl
 
 pub enter_on : (fs : List ℕ) (es : List (List ℕ)) (s : List ℕ) (t : Token) (fr : List (List ℕ)) (z y r : Stage) (g : Entered) (i e : ℕ)
     → ((h : Here) → IncludeHere h fs es s t z.cursor.other z.depth → EnteredBy g h (include_act h (include_at s t.end)) es z.depth)
-    → g ≡ entered.Into i e → y ≡ with_cursor z (cursor_behind s e z.cursor) → r ≡ entered_at z i
+    → g ≡ well (i, e) → y ≡ with_cursor z (cursor_behind s e z.cursor) → r ≡ entered_at z i
     → FramesBy (step.On r) fs es s t fr (set fr (z.depth - 1) (z.file ∷ y.cursor.at ∷ y.cursor.line ∷ [])) z
     (λ h. include_act h (include_at s t.end))
 enter_on fs es s t fr z y r g i e k q c w kind limit tx mp bs rs cd a x ms f o h =
@@ -314,13 +314,13 @@ enter_on fs es s t fr z y r g i e k q c w kind limit tx mp bs rs cd a x ms f o h
           (open_reads f i n.entry_in) (frames_ok fs es fr z.depth v d (omega arith) o.outer fit) (rw length-set l) o.few_macros,
     )
 
-pub enter_refused : (fs : List ℕ) (es : List (List ℕ)) (s : List ℕ) (t : Token) (fr : List (List ℕ)) (z : Stage) (r : Step) (g : Entered) (n p : ℕ)
+pub enter_refused : (fs : List ℕ) (es : List (List ℕ)) (s : List ℕ) (t : Token) (fr : List (List ℕ)) (z : Stage) (r : Step) (g : Entered) (v : Fault)
     → ((h : Here) → IncludeHere h fs es s t z.cursor.other z.depth → EnteredBy g h (include_act h (include_at s t.end)) es z.depth)
-    → g ≡ entered.Refused n p → r ≡ ended_at z n z.file p
+    → g ≡ refused v → r ≡ ended_at z v.number z.file v.place
     → FramesBy r fs es s t fr fr z (λ h. include_act h (include_at s t.end))
-enter_refused fs es s t fr z r g n p k q c kind limit tx mp bs rs cd a x ms f o h =
+enter_refused fs es s t fr z r g v k q c kind limit tx mp bs rs cd a x ms f o h =
     let H = here_of x limit (bufs tx mp bs rs fr cd) ms z in
     let u = include_act H (include_at s t.end) in
-    let v : EnteredBy (entered.Refused n p) H u es z.depth =
+    let b : EnteredBy (refused v) H u es z.depth =
     subst (λ (g : Entered). EnteredBy g H u es z.depth) q (k H (include_here x fs es kind limit (bufs tx mp bs rs fr cd) ms z s t f a)) in
-    refuses fs es limit (bufs tx mp bs rs fr cd) ms z r n p (perform H u) c v.1 (ap (perform H) v.0) h
+    refuses fs es limit (bufs tx mp bs rs fr cd) ms z r v.number v.place (perform H u) c b.1 (ap (perform H) b.0) h

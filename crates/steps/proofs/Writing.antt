@@ -7,7 +7,10 @@ use mathlib.Core.Path.{◌≡◌, refl, sym, ap, ◌∙◌, subst, subst⁻¹}
 use native.Mathlib.Nat.{max-zero}
 use native.Mathlib.Omega.{arith}
 use lib.ListN.{length}
+use Rattle.std.specs.Prelude.{Result, Ok as well, Err as refused}
+use Rattle.lex.specs.declared.Fault.{Fault}
 use Rattle.lex.specs.declared.Token.{Token}
+use Rattle.lex.specs.Faults.{fault}
 use Rattle.lex.proofs.Progress.{Inside}
 use Rattle.definition.specs.Definitions.{Macro, Definition, barred, bad, good, definition_at}
 use Rattle.store.specs.Stores.{define, fits}
@@ -30,16 +33,12 @@ use Rattle.turns.specs.States.{Context, Turn, more, Here, writes, refuse_at, ref
 use Rattle.turns.specs.Acts.{Act, spells, define_act, hide_act, keep_act}
 use Rattle.turns.specs.Performing.{perform}
 use Rattle.turns.proofs.Definitions.{bad_inside, good_inside, definition_bars}
-use Rattle.keeping.specs.Keeping.{KeepHere, Keeps, KeptBy}
-use Rattle.keeping.specs.declared.Kept.{Kept}
-use Rattle.keeping.specs.declared.Kept.TheVariants as kept
+use Rattle.keeping.specs.Keeping.{Kept, KeepHere, Keeps, KeptBy}
 use Rattle.keeping.proofs.Keeping.{put_number}
 use Rattle.steps.specs.declared.stage.Stage.{Stage}
 use Rattle.steps.specs.declared.stage.Step.{Step}
 use Rattle.steps.specs.declared.stage.Step.TheVariants as step
 use Rattle.steps.specs.Hiding.{hidden_by}
-use Rattle.steps.specs.declared.defining.Hidden.{Hidden}
-use Rattle.steps.specs.declared.defining.Hidden.TheVariants as hid
 use Rattle.steps.specs.Standing.{bufs, here_of, ended_at, with_cursor, with_spot, Ok, Fixed, At, Moves, SteppedBy, Performed}
 use Rattle.steps.proofs.Going.{open_first, with_macros, with_settings, moved_to, stops, token_here, reads_there, body_here, token_at_here, inside_there}
 
@@ -223,22 +222,21 @@ module _ (limit : ℕ) (ms : List Macro) {x : Context} {fs : List ℕ} {es : Lis
 
   -- ---- a definition in ignored text
 
-  module _ (held : Holds ms bs rs z.macros) {g : Hidden} (right : g ≡ hidden_by (definition_at s t.end)) where
+  module _ (held : Holds ms bs rs z.macros) {g : Result ℕ Fault} (right : g ≡ hidden_by (definition_at s t.end)) where
     abbrev Hides : Step → Type 0
     Hides r = Performed r x fs es limit (bufs tx mp bs rs fr cd) (bufs tx mp bs rs fr cd) ms z (λ h. hide_act (definition_at s t.end))
 
     abbrev hidden : Turn
     hidden = perform h (hide_act (definition_at s t.end))
 
-    pub hide_barred : {n p : ℕ} {r : Step} → g ≡ hid.Barred n p → r ≡ ended_at z n z.file p → Hides r
-    hide_barred {n} {p} {r} q w = go (definition_at s t.end) refl (sym q ∙ right)
+    pub hide_barred : {f : Fault} {r : Step} → g ≡ refused f → r ≡ ended_at z f.number z.file f.place → Hides r
+    hide_barred {f} {r} q w = go (definition_at s t.end) refl (sym q ∙ right)
       where
-        go : (v : Definition) → definition_at s t.end ≡ v → hid.Barred n p ≡ hidden_by v → Hides r
+        go : (v : Definition) → definition_at s t.end ≡ v → refused f ≡ hidden_by v → Hides r
         go (barred k l) i e =
-            let c : n ≡ k = cc in
-            let o : p ≡ l = cc in
-            let i' : definition_at s t.end ≡ barred n p = rw (c, o) i in
-            stops_at tx mp bs rs n p hidden r w (omega (arith, (definition_bars s t.end n p i').low)) (rw i') refl refl held
+            let c : f ≡ fault k l = cc in
+            let i' : definition_at s t.end ≡ barred f.number f.place = rw c i in
+            stops_at tx mp bs rs f.number f.place hidden r w (omega (arith, (definition_bars s t.end f.number f.place i').low)) (rw i') refl refl held
         go (bad k) i e = let c : ◌≡◌ {A = ℕ} 0 1 = cc in absurd (omega arith)
         go (good m k) i e = let c : ◌≡◌ {A = ℕ} 0 1 = cc in absurd (omega arith)
 
@@ -247,10 +245,10 @@ module _ (limit : ℕ) (ms : List Macro) {x : Context} {fs : List ℕ} {es : Lis
     hidden_to {e} {y} w i q =
         subst⁻¹ (λ (k : Stage). Hides (step.On k)) w (goes_at bs rs ms e z.macros hidden q held ok.few_macros i)
 
-    pub hide_to : {e : ℕ} {y : Stage} → g ≡ hid.To e → y ≡ with_cursor z (cursor_behind s e z.cursor) → Hides (step.On y)
+    pub hide_to : {e : ℕ} {y : Stage} → g ≡ well e → y ≡ with_cursor z (cursor_behind s e z.cursor) → Hides (step.On y)
     hide_to {e} {y} q w = go (definition_at s t.end) refl (sym q ∙ right)
       where
-        go : (v : Definition) → definition_at s t.end ≡ v → hid.To e ≡ hidden_by v → Hides (step.On y)
+        go : (v : Definition) → definition_at s t.end ≡ v → well e ≡ hidden_by v → Hides (step.On y)
         go (barred k l) i f = let c : ◌≡◌ {A = ℕ} 0 1 = cc in absurd (omega arith)
         go (bad k) i f =
             let o : e ≡ k = cc in
@@ -322,15 +320,15 @@ module _ (limit : ℕ) (ms : List Macro) {x : Context} {fs : List ℕ} {es : Lis
         kept_by : (q : Kept) → r ≡ q → KeptBy q h (keep_act n h) tx tx' mp mp' z.spot
         kept_by q e = subst (λ (k : Kept). KeptBy k h (keep_act n h) tx tx' mp mp' z.spot) e (b h kept_here)
 
-        pub keep_refused : {k p : ℕ} {v : Step} → r ≡ kept.Refused k p → v ≡ ended_at z k z.file p → WrittenBy v (keep_act n h)
-        keep_refused {k} {p} {v} q e =
-            let c = kept_by (kept.Refused k p) q in
-            stops_at tx' mp' bs rs k p (perform h (keep_act n h)) v e c.1 c.0 c.2 c.3 held
+        pub keep_refused : {f : Fault} {v : Step} → r ≡ refused f → v ≡ ended_at z f.number z.file f.place → WrittenBy v (keep_act n h)
+        keep_refused {f} {v} q e =
+            let c = kept_by (refused f) q in
+            stops_at tx' mp' bs rs f.number f.place (perform h (keep_act n h)) v e c.1 c.0 c.2 c.3 held
 
-        pub keep_to : {c : Settings} {y : Spot} {e : ℕ} {z₁ v : Stage} → r ≡ kept.To c y e → z₁ ≡ with_spot z y
+        pub keep_to : {c : Settings} {y : Spot} {e : ℕ} {z₁ v : Stage} → r ≡ well (c, y, e) → z₁ ≡ with_spot z y
             → v ≡ with_cursor z₁ (cursor_behind s e z₁.cursor) → WrittenBy (step.On (with_settings v c)) (keep_act n h)
         keep_to {c} {y} {e} {z₁} {v} q f g =
-            let k : Keeps h (keep_act n h) tx tx' mp mp' c z.spot y e = kept_by (kept.To c y e) q in
+            let k : Keeps h (keep_act n h) tx tx' mp mp' c z.spot y e = kept_by (well (c, y, e)) q in
             let g' : v ≡ with_cursor (with_spot z y) (cursor_behind s e z.cursor) = g ∙ ap (λ (j : Stage). with_cursor j (cursor_behind s e j.cursor)) f in
             subst⁻¹ (λ (j : Stage). WrittenBy (step.On (with_settings j c)) (keep_act n h)) g'
             (written_to e c y k.written (keep_act n h) k.turn_is k.puts k.in_text k.in_map (inside_there fixed here limit ms e ok k.ends))

@@ -1,11 +1,12 @@
 -- What a definition in ignored text hides.
 -- Assumes nothing.
+use Rattle.std.specs.Prelude.{ℕ, Result, Ok, Err}
+use Rattle.lex.specs.declared.Fault.{Fault}
+use Rattle.lex.specs.Faults.{fault}
 use Rattle.definition.specs.Definitions.{Definition, barred, bad, good}
-use Rattle.steps.specs.declared.defining.Hidden.{Hidden}
-use Rattle.steps.specs.declared.defining.Hidden.TheVariants.{To, Barred}
 
 -- all up to its end, good or bad, if nothing bars it
-abbrev pub hidden_by : Definition → Hidden
-hidden_by (barred n p) = Barred n p
-hidden_by (bad e) = To e
-hidden_by (good m e) = To e
+abbrev pub hidden_by : Definition → Result ℕ Fault
+hidden_by (barred n p) = Err (fault n p)
+hidden_by (bad e) = Ok e
+hidden_by (good m e) = Ok e

@@ -12,7 +12,7 @@ ghost use Rattle.steps.specs.Standing.{MacrosBy};
 use crate::stage::{Stage, Step, behind, refuse};
 use definition::{Judged, judge_definition};
 use directive::{MacroName, undef_at};
-use lex::Token;
+use lex::{Fault, Token};
 use macros::{ReadIn, define_at};
 use store::{undefine, undefine_all};
 use text::part_of;
@@ -33,35 +33,31 @@ pub fn define(
 {
     let r = define_at(s, t.end, bytes, records, z.macros, name, work, form);
     match r {
-        ReadIn::Done(n, e) => {
-            let mut y = behind(z, s, e);
-            y.macros = n;
-            Step::On(y)
-        }
+        ReadIn::Done(n, e) => Step::On(Stage {
+            macros: n,
+            ..behind(z, s, e)
+        }),
         ReadIn::Barred(n, p) => refuse(z, n, p),
         ReadIn::Bad => refuse(z, 11, t.at),
         ReadIn::NoRoom => refuse(z, 12, t.at),
     }
 }
 
-// Where a definition ends, good or bad; or what bars it, with the place.
-#[derive(Clone, Copy)]
-pub enum Hidden {
-    To(usize),
-    Barred(usize, usize),
-}
-
-// The definition whose word ends at `at`: the lent bytes have room for the brackets of any file.
-fn hidden_at(s: &[u8], at: usize, name: &mut [u8], stack: &mut [u8]) -> Hidden
+// Where the definition ends whose word ends at `at`, good or bad; or what bars it. The lent bytes have room for the brackets of
+// any file.
+fn hidden_at(s: &[u8], at: usize, name: &mut [u8], stack: &mut [u8]) -> Result<usize, Fault>
     requires { (length s.now ≤ 65535) × (1025 ≤ length name.old) × (16384 ≤ length stack.old) }
     ensures { result ≡ hidden_by (definition_at s.now at) }
 {
     let r = judge_definition(s, at, name, stack);
     match r {
-        Judged::Barred(n, p) => Hidden::Barred(n, p),
-        Judged::Bad(e) => Hidden::To(e),
-        Judged::Good(e) => Hidden::To(e),
-        Judged::Short => Hidden::To(at),
+        Judged::Barred(n, p) => Err(Fault {
+            number: n,
+            place: p,
+        }),
+        Judged::Bad(e) => Ok(e),
+        Judged::Good(e) => Ok(e),
+        Judged::Short => Ok(at),
     }
 }
 
@@ -72,8 +68,8 @@ pub fn hide(s: &[u8], t: Token, name: &mut [u8], stack: &mut [u8], z: Stage) -> 
 {
     let r = hidden_at(s, t.end, name, stack);
     match r {
-        Hidden::Barred(n, p) => refuse(z, n, p),
-        Hidden::To(e) => Step::On(behind(z, s, e)),
+        Err(f) => refuse(z, f.number, f.place),
+        Ok(e) => Step::On(behind(z, s, e)),
     }
 }
 
@@ -86,9 +82,10 @@ pub fn undef(s: &[u8], t: Token, bytes: &mut [u8], records: &mut [[u32; 4]], z: 
     match f {
         MacroName::Named(a, e) => {
             let n = undefine(bytes, records, z.macros, part_of(s, a, e));
-            let mut y = behind(z, s, e);
-            y.macros = n;
-            Step::On(y)
+            Step::On(Stage {
+                macros: n,
+                ..behind(z, s, e)
+            })
         }
         MacroName::Unnamed => refuse(z, 7, t.at),
         MacroName::Barred(n, p) => refuse(z, n, p),
@@ -101,7 +98,8 @@ pub fn undef_all(s: &[u8], t: Token, bytes: &mut [u8], records: &mut [[u32; 4]],
     ensures { MacrosBy result s.now t bytes.old bytes.new records.old records.new z (λ h. undefines [] t.end) }
 {
     undefine_all(bytes, records, z.macros);
-    let mut y = behind(z, s, t.end);
-    y.macros = 0;
-    Step::On(y)
+    Step::On(Stage {
+        macros: 0,
+        ..behind(z, s, t.end)
+    })
 }

@@ -7,7 +7,7 @@ ghost use Rattle.steps.specs.Standing.{FramesBy, LeftBy, LeavesBy};
 
 use crate::stage::{Stage, Step, behind, entered, refuse, with_spot};
 use copying::Cursor;
-use including::{Entered, include};
+use including::include;
 use lex::Token;
 use places::place_of;
 use writing::{Wrote, write_whole};
@@ -27,13 +27,13 @@ pub fn enter(
     let c = z.cursor;
     let r = include(files, table, s, t, c.other, z.depth);
     match r {
-        Entered::Into(i, e) => {
+        Ok((i, e)) => {
             let y = behind(z, s, e);
             let k = y.cursor;
             frames[z.depth - 1] = [z.file, k.at, k.line];
             Step::On(entered(z, i))
         }
-        Entered::Refused(n, p) => refuse(z, n, p),
+        Err(f) => refuse(z, f.number, f.place),
     }
 }
 
@@ -43,21 +43,21 @@ fn leave(frames: &[[usize; 3]], z: Stage) -> Step
     ensures { LeftBy result frames.now z }
 {
     let n = z.depth - 1;
-    let mut y = z;
-    y.depth = n;
     if n == 0 {
-        return Step::On(y);
+        return Step::On(Stage { depth: n, ..z });
     }
     let v = frames[n - 1];
-    y.file = v[0];
-    let c = Cursor {
-        at: v[1],
-        line: v[2],
-        other: true,
-        comment: false,
-    };
-    y.cursor = c;
-    Step::On(y)
+    Step::On(Stage {
+        depth: n,
+        file: v[0],
+        cursor: Cursor {
+            at: v[1],
+            line: v[2],
+            other: true,
+            comment: false,
+        },
+        ..z
+    })
 }
 
 // The end of a file: a newline is written behind a copied `//` comment.

@@ -7,7 +7,7 @@ ghost use Rattle.steps.specs.Standing.{WritesOver, WritesBy, place_act, PlaceLen
 use crate::stage::{Stage, Step, behind, expanded, refuse, with_spot};
 use expand::{Stand, expand};
 use handover::name_at;
-use keeping::{Kept, keep};
+use keeping::keep;
 use lex::Token;
 use names::{FILE_WORD, LINE_WORD};
 use places::{place_of, quote, write_digits};
@@ -40,12 +40,11 @@ pub fn keep_on(
         z.spot,
     );
     match r {
-        Kept::To(x, y, e) => {
-            let mut k = behind(with_spot(z, y), s, e);
-            k.settings = x;
-            Step::On(k)
-        }
-        Kept::Refused(n, p) => refuse(z, n, p),
+        Ok((x, y, e)) => Step::On(Stage {
+            settings: x,
+            ..behind(with_spot(z, y), s, e)
+        }),
+        Err(f) => refuse(z, f.number, f.place),
     }
 }
 

@@ -43,9 +43,7 @@ pub fn refuse(z: Stage, n: usize, byte: usize) -> Step
 pub fn with_spot(z: Stage, y: Spot) -> Stage
     ensures { result ≡ with_spot z y }
 {
-    let mut r = z;
-    r.spot = y;
-    r
+    Stage { spot: y, ..z }
 }
 
 // The cursor behind a directive or a usage that ends at `e`.
@@ -66,10 +64,10 @@ pub fn behind(z: Stage, s: &[u8], e: usize) -> Stage
     requires { Reads s.now 0 z.cursor }
     ensures { result ≡ with_cursor z (cursor_behind s.now e z.cursor) }
 {
-    let c = cursor_behind(s, z.cursor, e);
-    let mut r = z;
-    r.cursor = c;
-    r
+    Stage {
+        cursor: cursor_behind(s, z.cursor, e),
+        ..z
+    }
 }
 
 // The stage at the start of file `i`, included here.
@@ -77,38 +75,39 @@ pub fn entered(z: Stage, i: usize) -> Stage
     requires { z.depth ≤ 16 }
     ensures { result ≡ entered_at z i }
 {
-    let c = Cursor {
-        at: 0,
-        line: 1,
-        other: false,
-        comment: false,
-    };
-    let mut r = z;
-    r.depth = z.depth + 1;
-    r.file = i;
-    r.cursor = c;
-    r
+    Stage {
+        depth: z.depth + 1,
+        file: i,
+        cursor: Cursor {
+            at: 0,
+            line: 1,
+            other: false,
+            comment: false,
+        },
+        ..z
+    }
 }
 
 // The stage behind what a usage wrote and counted.
 pub fn expanded(z: Stage, r: Expanded) -> Stage
     ensures { result ≡ expanded_to z r }
 {
-    let y = r.spot;
-    let mut x = z;
-    x.spot = y;
-    x.count = r.count;
-    x.deepest = r.deepest;
-    x
+    Stage {
+        spot: r.spot,
+        count: r.count,
+        deepest: r.deepest,
+        ..z
+    }
 }
 
 // The stage where reading stopped.
 pub fn reached(z: Stage, c: Cursor, y: Spot, k: Blocks) -> Stage
     ensures { result ≡ reached_at z c y k }
 {
-    let mut r = z;
-    r.cursor = c;
-    r.spot = y;
-    r.blocks = k;
-    r
+    Stage {
+        cursor: c,
+        spot: y,
+        blocks: k,
+        ..z
+    }
 }

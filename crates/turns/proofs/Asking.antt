@@ -9,6 +9,7 @@ use native.Mathlib.Omega.{arith}
 use lib.Dec.{eqb, leb}
 use lib.ListN.{length, get_or}
 use borrow.Author.Tests.{eqb-true, eqb-false, leb-true, leb-false, not-true}
+use Rattle.std.specs.Prelude.{Ok, Err}
 use Rattle.text.specs.Bytes.{part}
 use Rattle.lex.specs.Tokens.{in_file, Grave, End, is, name_of}
 use Rattle.lex.proofs.Tests.{by_test, and_left, and_right, true_false}
@@ -26,8 +27,7 @@ use Rattle.directive.specs.Forms.{undef_at}
 use Rattle.directive.specs.Include.{include_at}
 use Rattle.directive.proofs.Undefining.{form_of, undef-form}
 use Rattle.definition.specs.Definitions.{Definition, barred, bad, good, definition_at}
-use Rattle.conditions.specs.declared.Condition.{Condition}
-use Rattle.conditions.specs.declared.Condition.TheVariants.{Truth, Refused}
+use Rattle.conditions.specs.Grammar.{Condition}
 use Rattle.conditions.proofs.Parts.{condition_level}
 use Rattle.blocks.specs.Blocks.{Conditional, taken_by, next_block, close_block}
 use Rattle.handover.specs.Entries.{entry_of}
@@ -74,12 +74,12 @@ module _ (h : Here) where
         go Unformed q = rule 7 (omega arith) (omega arith)
         go (Barred n p) q = to_refuse (of_form k q)
 
-    condition_asks : (y : Bool → ℕ → Act) → ((b : Bool) (e : ℕ) → condition_here h ≡ Truth b e → EndsAt h e → Asks h (y b e)) → Asks h (on_condition (condition_here h) y)
+    condition_asks : (y : Bool → ℕ → Act) → ((b : Bool) (e : ℕ) → condition_here h ≡ Ok (b, e) → EndsAt h e → Asks h (y b e)) → Asks h (on_condition (condition_here h) y)
     condition_asks y g = go (condition_here h) refl
       where
         go : (c : Condition) → condition_here h ≡ c → Asks h (on_condition c y)
-        go (Truth b e) q = g b e q (ends_at h e (condition_level h.body (is_defined_here h) h.token b e q a.reading.within).inside)
-        go (Refused n p) q = to_refuse (of_condition q)
+        go (Ok x) q = g x.0 x.1 q (ends_at h x.1 (condition_level h.body (is_defined_here h) h.token x.0 x.1 q a.reading.within).inside)
+        go (Err u) q = to_refuse (of_condition q)
 
     blocks_ask : (e : ℕ) (o : Option (List Conditional)) → Opens h d e o → EndsAt h e → Asks h (on_blocks h.token.at e o)
     blocks_ask e none o i = rule 8 (omega arith) (omega arith)

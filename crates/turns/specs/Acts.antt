@@ -1,6 +1,6 @@
 -- What the token, directive or usage at the cursor asks for.
 -- Assumes nothing.
-use Rattle.std.specs.Prelude.{ℕ, Bool, true, false, cond, not, ◌&&◌, ◌||◌, List, [], eqb, leb, length, get_or}
+use Rattle.std.specs.Prelude.{ℕ, Bool, true, false, cond, not, ◌&&◌, ◌||◌, List, [], eqb, leb, length, get_or, Ok, Err}
 use Rattle.std.proofs.Math.Option.{Option, none, some}
 use Rattle.text.specs.Bytes.{part}
 use Rattle.lex.specs.Tokens.{Grave, End, is, name_of}
@@ -17,9 +17,7 @@ use Rattle.directive.specs.Forms.{form_at, undef_at}
 use Rattle.directive.specs.Include.{include_at}
 use Rattle.definition.specs.Definitions.{Macro, Definition, barred, bad, good, definition_at}
 use Rattle.store.specs.Stores.{undefine}
-use Rattle.conditions.specs.Grammar.{is_defined, condition_at}
-use Rattle.conditions.specs.declared.Condition.{Condition}
-use Rattle.conditions.specs.declared.Condition.TheVariants.{Truth, Refused}
+use Rattle.conditions.specs.Grammar.{Condition, is_defined, condition_at}
 use Rattle.places.specs.Places.{quoted, decimal}
 use Rattle.blocks.specs.Blocks.{Conditional, taken_by, open_block, next_block, close_block}
 use Rattle.handover.specs.Entries.{entry_of, name_of as entryNamed}
@@ -64,8 +62,8 @@ condition_here h = condition_at h.body (is_defined_here h) h.token
 
 -- by its value and its end; refused with 7, or with 2 to 6
 abbrev pub on_condition : Condition → (Bool → ℕ → Act) → Act
-on_condition (Truth v e) f = f v e
-on_condition (Refused n p) f = refuses n p
+on_condition (Ok x) f = f x.0 x.1
+on_condition (Err g) f = refuses g.number g.place
 
 -- the conditionals open then, or 8
 abbrev pub on_blocks : ℕ → ℕ → Option (List Conditional) → Act

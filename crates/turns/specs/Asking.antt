@@ -1,8 +1,9 @@
 -- Which acts are asked for, and why.
 -- Assumes nothing.
-use Rattle.std.specs.Prelude.{ℕ, ◌<◌, ◌≤◌, Bool, true, false, not, ◌&&◌, List, [], ◌≡◌, eqb, leb, length}
+use Rattle.std.specs.Prelude.{ℕ, ◌<◌, ◌≤◌, Bool, true, false, not, ◌&&◌, List, [], ◌≡◌, eqb, leb, length, Ok, Err}
 use Rattle.std.proofs.Math.Option.{Option, some}
 use Rattle.text.specs.Bytes.{part}
+use Rattle.lex.specs.Faults.{fault}
 use Rattle.lex.specs.Tokens.{Grave, End, is, name_of}
 use Rattle.names.specs.Names.{FileWord, LineWord, Define, Undef, UndefineAll, Ifdef, Ifndef, Elsif, Else, Endif, Include, Resetall, EndKeywords, directive_of}
 use Rattle.directive.specs.declared.Value.{Value}
@@ -13,7 +14,6 @@ use Rattle.directive.specs.Forms.{undef_at}
 use Rattle.directive.specs.Include.{include_at}
 use Rattle.definition.specs.Definitions.{Macro, barred, bad, good, definition_at}
 use Rattle.store.specs.Stores.{undefine}
-use Rattle.conditions.specs.declared.Condition.TheVariants.{Truth, Refused}
 use Rattle.blocks.specs.Blocks.{Conditional, taken_by, open_block, next_block, close_block}
 use Rattle.handover.specs.Entries.{entry_of}
 use Rattle.turns.specs.States.{Here}
@@ -46,7 +46,7 @@ EndsIn h e = h.token.end ≤ length h.body → EndsAt h e
 pub data Refusal (h : Here) : ℕ → ℕ → Type 0 where
   of_token : eqb h.token.bar 0 ≡ false → Refusal h h.token.bar h.token.at
   of_form : (d : ℕ) {n p : ℕ} → form_here d h ≡ Barred n p → Refusal h n p
-  of_condition : {n p : ℕ} → condition_here h ≡ Refused n p → Refusal h n p
+  of_condition : {n p : ℕ} → condition_here h ≡ Err (fault n p) → Refusal h n p
   of_definition : {n p : ℕ} → definition_at h.body h.token.end ≡ barred n p → Refusal h n p
   of_line : eqb (include_at h.body h.token.end).bars.number 0 ≡ false
       → Refusal h (include_at h.body h.token.end).bars.number (include_at h.body h.token.end).bars.place
@@ -59,9 +59,9 @@ pub data DefinedTo (h : Here) (e : ℕ) : Type 0 where
 
 -- the conditionals open behind the conditional word d, which ends at e
 pub data Opens (h : Here) (d e : ℕ) : Option (List Conditional) → Type 0 where
-  by_ifdef : {b : Bool} → d ≡ Ifdef → condition_here h ≡ Truth b e → Opens h d e (open_block h.frame.file h.token.at b h.state.conds)
-  by_ifndef : {b : Bool} → d ≡ Ifndef → condition_here h ≡ Truth b e → Opens h d e (open_block h.frame.file h.token.at (not b) h.state.conds)
-  by_elsif : {b : Bool} → d ≡ Elsif → condition_here h ≡ Truth b e → Opens h d e (next_block b false h.state.conds)
+  by_ifdef : {b : Bool} → d ≡ Ifdef → condition_here h ≡ Ok (b, e) → Opens h d e (open_block h.frame.file h.token.at b h.state.conds)
+  by_ifndef : {b : Bool} → d ≡ Ifndef → condition_here h ≡ Ok (b, e) → Opens h d e (open_block h.frame.file h.token.at (not b) h.state.conds)
+  by_elsif : {b : Bool} → d ≡ Elsif → condition_here h ≡ Ok (b, e) → Opens h d e (next_block b false h.state.conds)
   by_else : d ≡ Else → Opens h d e (next_block true true h.state.conds)
   by_endif : d ≡ Endif → Opens h d e (close_block h.state.conds)
 

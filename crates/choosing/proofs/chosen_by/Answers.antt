@@ -2,8 +2,8 @@
 -- Assumes nothing.
 use Rattle.choosing.proofs.chosen_by.Goals as goal
 
-pub returns-in-To : goal.returns-in-To
-returns-in-To c = rw c.in-To.is
+pub returns-in-Some : goal.returns-in-Some
+returns-in-Some c = rw c.in-Some.is
 
-pub returns-in-Refused : goal.returns-in-Refused
-returns-in-Refused c = rw c.in-Refused.is
+pub returns-in-None : goal.returns-in-None
+returns-in-None c = rw c.in-None.is

@@ -60,22 +60,22 @@ pub past_grave-p-requires : goal.past_grave-p-requires
 past_grave-p-requires c = (c.requires.0, omega (arith, c.requires.1, c.loop-i.invariant.1))
 
 pub loop-i-smaller : goal.loop-i-smaller
-loop-i-smaller c = omega (arith, token_goes _ _ _ _ c.loop-i-test.true c.in_file.ensures c.token_at-t.ensures, grave_past _ _ _ _ _ _ _ c.past_grave-p.ensures c.in-On.is)
+loop-i-smaller c = omega (arith, token_goes _ _ _ _ c.loop-i-test.true c.in_file.ensures c.token_at-t.ensures, grave_past _ _ _ _ _ _ _ c.past_grave-p.ensures c.in-Ok.is)
 
 pub loop-i-preserved : goal.loop-i-preserved
-loop-i-preserved c = (written_on _ _ _ _ _ _ _ c.loop-i.invariant.0 _ _ c.loop-i-test.true c.in_file.ensures c.token_at-t.ensures c.if-t-ne0.false c.if-t-eq-NAME.false c.if-t-ne-GRAVE.false _ c.past_grave-p.ensures _ _ c.in-On.is, c.past_grave-p.auto.name ∙ c.loop-i.invariant.1, c.past_grave-p.auto.stack ∙ c.loop-i.invariant.2)
+loop-i-preserved c = (written_on _ _ _ _ _ _ _ c.loop-i.invariant.0 _ _ c.loop-i-test.true c.in_file.ensures c.token_at-t.ensures c.if-t-ne0.false c.if-t-eq-NAME.false c.if-t-ne-GRAVE.false _ c.past_grave-p.ensures _ _ c.in-Ok.is, c.past_grave-p.auto.name ∙ c.loop-i.invariant.1, c.past_grave-p.auto.stack ∙ c.loop-i.invariant.2)
 
-pub shape_of-words-in-Stop : goal.shape_of-words-in-Stop
-shape_of-words-in-Stop c = written_length _ _ _ _ _ _ _ c.loop-i.invariant.0
+pub shape_of-words-in-Err : goal.shape_of-words-in-Err
+shape_of-words-in-Err c = written_length _ _ _ _ _ _ _ c.loop-i.invariant.0
 
-pub shape_of-name-in-Stop : goal.shape_of-name-in-Stop
-shape_of-name-in-Stop c = c.past_grave-p.auto.name ∙ c.loop-i.invariant.1
+pub shape_of-name-in-Err : goal.shape_of-name-in-Err
+shape_of-name-in-Err c = c.past_grave-p.auto.name ∙ c.loop-i.invariant.1
 
-pub shape_of-stack-in-Stop : goal.shape_of-stack-in-Stop
-shape_of-stack-in-Stop c = c.past_grave-p.auto.stack ∙ c.loop-i.invariant.2
+pub shape_of-stack-in-Err : goal.shape_of-stack-in-Err
+shape_of-stack-in-Err c = c.past_grave-p.auto.stack ∙ c.loop-i.invariant.2
 
-pub returns-in-Stop : goal.returns-in-Stop
-returns-in-Stop c = listed_stop _ _ _ _ _ _ _ c.loop-i.invariant.0 _ _ c.loop-i-test.true c.in_file.ensures c.token_at-t.ensures c.if-t-ne0.false c.if-t-eq-NAME.false c.if-t-ne-GRAVE.false _ c.past_grave-p.ensures _ _ _ c.in-Stop.is c.make_ended-in-Stop.ensures
+pub returns-in-Err : goal.returns-in-Err
+returns-in-Err c = listed_stop _ _ _ _ _ _ _ c.loop-i.invariant.0 _ _ c.loop-i-test.true c.in_file.ensures c.token_at-t.ensures c.if-t-ne0.false c.if-t-eq-NAME.false c.if-t-ne-GRAVE.false _ c.past_grave-p.ensures _ _ _ c.in-Err.is c.make_ended-in-Err.ensures
 
 pub shape_of-words : goal.shape_of-words
 shape_of-words c = written_length _ _ _ _ _ _ _ c.loop-i.invariant.0

@@ -1,14 +1,15 @@
-use Rattle.copying.proofs.Writing.{filling_none, filling_next, filling_all}
+-- `copying::copy_bytes` meets its contract: a part of a list with the bytes in its place is the list with each of them set.
+-- Assumes nothing.
+use Prim.Native.Nat.{◌+◌, ◌-◌}
+use mathlib.Core.Path.{◌≡◌}
+use mathlib.Core.List.{append_assoc}
+use native.Mathlib.Omega.{arith}
+use lib.ListN.{length}
+use Rattle.std.proofs.lemmas.List.{drop-drop}
+use Rattle.std.proofs.lemmas.List.Edits.{sets-eq}
 use Rattle.copying.proofs.copy_bytes.Goals as goal
 
-pub loop-i-init : goal.loop-i-init
-loop-i-init c = filling_none _ _ _
-
-pub loop-i-preserved : goal.loop-i-preserved
-loop-i-preserved c = filling_next c.loop-i.invariant c.loop-i-test.true
-
-pub shape_of-text : goal.shape_of-text
-shape_of-text c = c.loop-i.invariant.size
-
 pub returns : goal.returns
-returns c = filling_all c.loop-i.invariant c.loop-i-test.false
+returns c =
+    let k : c.args.n + length c.args.w.now - c.args.n ≡ length c.args.w.now = omega arith in
+    rw (c.copy_from_slice.ensures.after, sets-eq c.args.w.now c.args.text.now c.args.n c.requires, k) (simp (append_assoc, drop-drop))

@@ -48,19 +48,19 @@ pub choose-x-requires : goal.choose-x-requires
 choose-x-requires c = (c.loop-e.invariant.blocks_are, c.requires.3)
 
 pub loop-e-smaller : goal.loop-e-smaller
-loop-e-smaller c = onward_less (onward_upto c.loop-e.invariant c.place_of-base.ensures c.pass_on-r.ensures c.in-Upto.is) c.if-t-ne0.false c.part_of.ensures c.directive_of-d.ensures (word_low _ c.if-d.false) (word_high _ c.if-d.false) c.requires.3 c.choose-x.result c.choose-x.new.conds c.choose-x.ensures c.in-To.is c.cursor_behind-c.ensures
+loop-e-smaller c = onward_less (onward_upto c.loop-e.invariant c.place_of-base.ensures c.pass_on-r.ensures c.in-Upto.is) c.if-t-ne0.false c.part_of.ensures c.directive_of-d.ensures (word_low _ c.if-d.false) (word_high _ c.if-d.false) c.requires.3 c.choose-x.result c.choose-x.new.conds c.choose-x.ensures c.in-Ok.is c.cursor_behind-c.ensures
 
 pub loop-e-preserved : goal.loop-e-preserved
-loop-e-preserved c = onward_word (onward_upto c.loop-e.invariant c.place_of-base.ensures c.pass_on-r.ensures c.in-Upto.is) c.if-t-ne0.false c.part_of.ensures c.directive_of-d.ensures (word_low _ c.if-d.false) (word_high _ c.if-d.false) c.requires.3 c.choose-x.result c.choose-x.new.conds c.choose-x.ensures c.in-To.is c.cursor_behind-c.ensures c.choose-x.auto.conds
+loop-e-preserved c = onward_word (onward_upto c.loop-e.invariant c.place_of-base.ensures c.pass_on-r.ensures c.in-Upto.is) c.if-t-ne0.false c.part_of.ensures c.directive_of-d.ensures (word_low _ c.if-d.false) (word_high _ c.if-d.false) c.requires.3 c.choose-x.result c.choose-x.new.conds c.choose-x.ensures c.in-Ok.is c.cursor_behind-c.ensures c.choose-x.auto.conds
 
-pub shape_of-conds-in-Refused : goal.shape_of-conds-in-Refused
-shape_of-conds-in-Refused c = c.choose-x.auto.conds ∙ c.loop-e.invariant.same_conds
+pub shape_of-conds-in-Err : goal.shape_of-conds-in-Err
+shape_of-conds-in-Err c = c.choose-x.auto.conds ∙ c.loop-e.invariant.same_conds
 
-pub shape_of-text-in-Refused : goal.shape_of-text-in-Refused
-shape_of-text-in-Refused c = c.pass_on-r.auto.text ∙ c.loop-e.invariant.same_text
+pub shape_of-text-in-Err : goal.shape_of-text-in-Err
+shape_of-text-in-Err c = c.pass_on-r.auto.text ∙ c.loop-e.invariant.same_text
 
-pub shape_of-map-in-Refused : goal.shape_of-map-in-Refused
-shape_of-map-in-Refused c = c.pass_on-r.auto.map ∙ c.loop-e.invariant.same_map
+pub shape_of-map-in-Err : goal.shape_of-map-in-Err
+shape_of-map-in-Err c = c.pass_on-r.auto.map ∙ c.loop-e.invariant.same_map
 
-pub returns-in-Refused : goal.returns-in-Refused
-returns-in-Refused c = answers_refused (onward_upto c.loop-e.invariant c.place_of-base.ensures c.pass_on-r.ensures c.in-Upto.is) c.if-t-ne0.false c.part_of.ensures c.directive_of-d.ensures (word_low _ c.if-d.false) (word_high _ c.if-d.false) c.requires.3 c.choose-x.result c.choose-x.new.conds c.choose-x.ensures c.in-Refused.is
+pub returns-in-Err : goal.returns-in-Err
+returns-in-Err c = answers_refused (onward_upto c.loop-e.invariant c.place_of-base.ensures c.pass_on-r.ensures c.in-Upto.is) c.if-t-ne0.false c.part_of.ensures c.directive_of-d.ensures (word_low _ c.if-d.false) (word_high _ c.if-d.false) c.requires.3 c.choose-x.result c.choose-x.new.conds c.choose-x.ensures c.in-Err.is

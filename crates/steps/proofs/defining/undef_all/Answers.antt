@@ -4,4 +4,4 @@ use Rattle.steps.proofs.Going.{undef_all_on}
 use Rattle.steps.proofs.defining.undef_all.Goals as goal
 
 pub returns : goal.returns
-returns c = undef_all_on _ _ _ _ _ _ c.args.z _ c.behind-y.ensures c.undefine_all.ensures
+returns c = undef_all_on _ _ _ _ _ _ c.args.z _ c.behind.ensures c.undefine_all.ensures

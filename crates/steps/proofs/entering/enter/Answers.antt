@@ -3,8 +3,8 @@
 use Rattle.steps.proofs.Frames.{enter_on, enter_refused}
 use Rattle.steps.proofs.entering.enter.Goals as goal
 
-pub returns-in-Into : goal.returns-in-Into
-returns-in-Into c = enter_on _ _ _ _ _ c.args.z _ _ _ _ _ c.include-r.ensures c.in-Into.is c.behind-y.ensures c.entered.ensures
+pub returns-in-Ok : goal.returns-in-Ok
+returns-in-Ok c = enter_on _ _ _ _ _ c.args.z _ _ _ _ _ c.include-r.ensures c.in-Ok.is c.behind-y.ensures c.entered.ensures
 
-pub returns-in-Refused : goal.returns-in-Refused
-returns-in-Refused c = enter_refused _ _ _ _ _ c.args.z _ _ _ _ c.include-r.ensures c.in-Refused.is c.refuse.ensures
+pub returns-in-Err : goal.returns-in-Err
+returns-in-Err c = enter_refused _ _ _ _ _ c.args.z _ _ _ c.include-r.ensures c.in-Err.is c.refuse.ensures

@@ -3,4 +3,4 @@
 use Rattle.steps.proofs.stage.behind.Goals as goal
 
 pub returns : goal.returns
-returns c = rw c.cursor_behind-c.ensures
+returns c = rw c.cursor_behind.ensures

@@ -1,7 +1,0 @@
--- `classify::judge` meets its contract: at the first try an answer other than `Short` is right, and the last try has enough bytes.
--- Assumes nothing.
-use Rattle.brackets.proofs.Settling.{settled_full}
-use Rattle.classify.proofs.+judge.Goals as goal
-
-pub returns-in_default : goal.returns-in_default
-returns-in_default t c = settled_full c.judge_definition-r.ensures c.in_default.not-Short

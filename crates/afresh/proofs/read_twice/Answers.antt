@@ -4,8 +4,6 @@ use Rattle.afresh.specs.Feeding.{state_of}
 use Rattle.afresh.proofs.Choices.{twice_bad, twice_solid}
 use borrow.Author.Tests.{eq-eqb}
 use native.Mathlib.Omega.{arith}
-use mathlib.Core.Path.{◌∙◌}
-use lib.ListN.{length-set}
 use Rattle.afresh.specs.States.{in_twice}
 use Rattle.afresh.proofs.Feeding.{fed_at}
 use Rattle.afresh.proofs.Handing.{handed_sound, fed_twice, accent_sound}
@@ -20,9 +18,6 @@ returns-then-r c = rw (twice_bad (state_of c.args.r c.args.name.now c.args.stack
 
 pub read_solid-requires : goal.read_solid-requires
 read_solid-requires c = handed_sound (accent_sound c.requires) c.slanted.ensures (omega arith)
-
-pub shape_of-name : goal.shape_of-name
-shape_of-name c = c.read_solid.auto.name ∙ length-set c.args.name.now 0 96
 
 pub returns : goal.returns
 returns c = rw (twice_solid (state_of c.args.r c.args.name.now c.args.stack.now) c.args.b c.if-b-eq34.false c.if-r.false) (fed_twice c.read_solid.result c.args.r c.args.b c.args.name.now c.args.stack.now c.read_solid.new.name c.read_solid.new.stack c.requires.long c.slanted.ensures c.read_solid.ensures)

@@ -6,9 +6,6 @@ use Rattle.definition.proofs.list_at.Goals as goal
 pub loop-i-init : goal.loop-i-init
 loop-i-init c = counted_first _ _ _
 
-pub overflow_add-n : goal.overflow_add-n
-overflow_add-n c = omega (arith, c.loop-i.invariant.few)
-
 pub returns-in_err-f : goal.returns-in_err-f
 returns-in_err-f c =
     let p = err_from_is_err_and c.from_residual.result c.from_residual.ensures.1 in

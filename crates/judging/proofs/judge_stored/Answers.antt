@@ -1,5 +1,5 @@
 use mathlib.Core.Bool.{false}
-use mathlib.Core.Path.{refl, ◌∙◌}
+use mathlib.Core.Path.{refl}
 use native.Mathlib.Omega.{arith}
 use Rattle.lex.specs.Tokens.{in_definition}
 use Rattle.storing.specs.Stored.{piece, stored}
@@ -15,24 +15,12 @@ loop-i-init c = feeding_starts c.begin-q.ensures c.requires
 pub end_verdict-requires : goal.end_verdict-requires
 end_verdict-requires c = sound_count c.loop-i.invariant.sound
 
-pub shape_of-name-then-s-i : goal.shape_of-name-then-s-i
-shape_of-name-then-s-i c = c.loop-i.invariant.same_name
-
-pub shape_of-stack-then-s-i : goal.shape_of-stack-then-s-i
-shape_of-stack-then-s-i c = c.loop-i.invariant.same_stack
-
 pub returns-then-s-i : goal.returns-then-s-i
 unfolding stored
 returns-then-s-i c = judged_end _ _ _ _ _ _ c.loop-i.invariant (pieces_out _ _ _ _ c.if-s-i.true) c.end_verdict.ensures
 
 pub end_verdict-requires-then-t-eq-NEWLINE : goal.end_verdict-requires-then-t-eq-NEWLINE
 end_verdict-requires-then-t-eq-NEWLINE c = sound_count c.loop-i.invariant.sound
-
-pub shape_of-name-then-t-eq-NEWLINE : goal.shape_of-name-then-t-eq-NEWLINE
-shape_of-name-then-t-eq-NEWLINE c = c.loop-i.invariant.same_name
-
-pub shape_of-stack-then-t-eq-NEWLINE : goal.shape_of-stack-then-t-eq-NEWLINE
-shape_of-stack-then-t-eq-NEWLINE c = c.loop-i.invariant.same_stack
 
 pub returns-then-t-eq-NEWLINE : goal.returns-then-t-eq-NEWLINE
 unfolding stored
@@ -47,24 +35,12 @@ loop-i-smaller c = omega (arith, c.loop-i-test.true, token_past _ _ _ _ c.token_
 pub loop-i-preserved : goal.loop-i-preserved
 loop-i-preserved c = feeding_next c.loop-i.invariant (piece c.args.s.now c.loop-i.marks c.token_at-t.result) _ (pieces_next _ _ _ _ _ _ c.in_definition.ensures c.token_at-t.ensures c.if-s-i.false c.if-t-eq-NEWLINE.false c.loop-i-test.true _ c.marks_after-marks.ensures) c.in_ok-q.ensures c.read_piece.auto.name c.read_piece.auto.stack
 
-pub shape_of-name-in_err-q : goal.shape_of-name-in_err-q
-shape_of-name-in_err-q c = c.read_piece.auto.name ∙ c.loop-i.invariant.same_name
-
-pub shape_of-stack-in_err-q : goal.shape_of-stack-in_err-q
-shape_of-stack-in_err-q c = c.read_piece.auto.stack ∙ c.loop-i.invariant.same_stack
-
 pub returns-in_err-q : goal.returns-in_err-q
 unfolding stored
 returns-in_err-q c = judged_short (pieces_length c.args.s.now c.args.end in_definition c.args.at false) c.from_residual.ensures (feeding_short c.loop-i.invariant (piece c.args.s.now c.loop-i.marks c.token_at-t.result) _ (pieces_next _ _ _ _ _ _ c.in_definition.ensures c.token_at-t.ensures c.if-s-i.false c.if-t-eq-NEWLINE.false c.loop-i-test.true _ refl) c.in_err-q.ensures)
 
 pub end_verdict-requires-2 : goal.end_verdict-requires-2
 end_verdict-requires-2 c = sound_count c.loop-i.invariant.sound
-
-pub shape_of-name : goal.shape_of-name
-shape_of-name c = c.loop-i.invariant.same_name
-
-pub shape_of-stack : goal.shape_of-stack
-shape_of-stack c = c.loop-i.invariant.same_stack
 
 pub returns : goal.returns
 unfolding stored

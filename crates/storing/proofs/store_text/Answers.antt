@@ -3,7 +3,7 @@ use mathlib.Core.Bool.{false}
 use native.Mathlib.Omega.{arith}
 use native.Mathlib.Nat.{le_refl}
 use Rattle.lex.specs.Tokens.{in_definition}
-use Rattle.storing.proofs.Adding.{adding_first, adding_past, adding_length, adding_end, adding_next, adding_short}
+use Rattle.storing.proofs.Adding.{adding_first, adding_past, adding_end, adding_next, adding_short}
 use Rattle.storing.proofs.Reading.{token_past}
 use Rattle.storing.proofs.Joining.{pieces_out, pieces_past, pieces_stop, pieces_next, pieces_length}
 use Rattle.storing.proofs.Trimming.{stored_at}
@@ -15,17 +15,11 @@ loop-i-init c = adding_first (le_refl _) c.requires
 pub trim_end-requires : goal.trim_end-requires
 trim_end-requires c = adding_past c.loop-i.invariant
 
-pub shape_of-out-then-s-i : goal.shape_of-out-then-s-i
-shape_of-out-then-s-i c = adding_length c.loop-i.invariant
-
 pub returns-then-s-i : goal.returns-then-s-i
 returns-then-s-i c = stored_at c.requires (adding_end c.loop-i.invariant (pieces_out _ _ _ _ c.if-s-i.true)) c.trim_end.ensures
 
 pub trim_end-requires-then-t-eq-NEWLINE : goal.trim_end-requires-then-t-eq-NEWLINE
 trim_end-requires-then-t-eq-NEWLINE c = adding_past c.loop-i.invariant
-
-pub shape_of-out-then-t-eq-NEWLINE : goal.shape_of-out-then-t-eq-NEWLINE
-shape_of-out-then-t-eq-NEWLINE c = adding_length c.loop-i.invariant
 
 pub returns-then-t-eq-NEWLINE : goal.returns-then-t-eq-NEWLINE
 returns-then-t-eq-NEWLINE c = stored_at c.requires (adding_end c.loop-i.invariant (pieces_stop _ _ _ _ _ _ c.in_definition.ensures c.token_at-t.ensures c.if-s-i.false c.if-t-eq-NEWLINE.true)) c.trim_end-then-t-eq-NEWLINE.ensures
@@ -44,9 +38,6 @@ returns-in_err-k c = rw c.from_residual.ensures (omega (arith, pieces_length c.a
 
 pub trim_end-requires-2 : goal.trim_end-requires-2
 trim_end-requires-2 c = adding_past c.loop-i.invariant
-
-pub shape_of-out : goal.shape_of-out
-shape_of-out c = adding_length c.loop-i.invariant
 
 pub returns : goal.returns
 returns c = stored_at c.requires (adding_end c.loop-i.invariant (pieces_past _ _ _ _ c.loop-i-test.false)) c.trim_end-2.ensures

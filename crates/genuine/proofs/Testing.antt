@@ -3,13 +3,14 @@
 use Prim.Native.Nat.{ℕ, ◌+◌, ◌-◌, ◌≤◌, ◌<◌}
 use mathlib.Core.Bool.{Bool, true, false, not, ◌&&◌}
 use mathlib.Core.List.{List, [], ◌∷◌}
-use mathlib.Core.Path.{◌≡◌, refl, sym, ap, ◌∙◌}
+use mathlib.Core.Path.{◌≡◌, refl, sym, ◌∙◌}
 use native.Mathlib.Numerals.{add-one}
 use native.Mathlib.Omega.{arith}
 use lib.Dec.{eqb, leb}
 use lib.ListN.{length, drop, get_or, drop_of_length-le, length-drop}
 use lib.Seq.{drop-cons, take_all}
 use Rattle.std.specs.List.{list_all}
+use Rattle.std.proofs.lemmas.List.Recursion.{same_from_clauses}
 use borrow.Author.Tests.{not-true, not-false}
 use Rattle.text.specs.Bytes.{part}
 use Rattle.lex.specs.Classes.{is_run}
@@ -34,8 +35,7 @@ pub record Each {A : Type 0} (p : A → Bool) (f : List A → Bool) : Type 0 whe
   pub some : (x : A) (xs : List A) → f (x ∷ xs) ≡ (p x && f xs)
 
 pub each_list : {A : Type 0} {p : A → Bool} {f : List A → Bool} → Each p f → (w : List A) → list_all p w ≡ f w
-each_list e [] = sym e.none
-each_list {p = p} e (x ∷ w) = ap (λ (b : Bool). p x && b) (each_list e w) ∙ sym (e.some x w)
+each_list {p = p} {f = f} e = same_from_clauses (list_all p) f (λ x b. p x && b) (sym e.none) (λ x w. refl) e.some
 
 module _ {A : Type 0} {p : A → Bool} {f : List A → Bool} (e : Each p f) (w : List A) (i : ℕ) where
   pub each_end : length w ≤ i → true ≡ f (drop i w)

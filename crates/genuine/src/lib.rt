@@ -43,11 +43,11 @@ fn is_fit_name(w: &[u8]) -> bool
     directive_of(w) == 0
 }
 
-// Whether the bytes from `at` on are letters, digits, `_` or `$`.
-fn all_run(w: &[u8], at: usize) -> bool
-    ensures { result ≡ all_run (drop at w.now) }
+// Whether all bytes are letters, digits, `_` or `$`.
+fn all_run(w: &[u8]) -> bool
+    ensures { result ≡ all_run w.now }
 {
-    part_of(w, at, w.len()).iter().all(|&b| is_run(36, b))
+    w.iter().all(|&b| is_run(36, b))
 }
 
 // Whether a formal can have the name `w`.
@@ -60,7 +60,7 @@ fn is_fit_formal(w: &[u8]) -> bool
     if !is_start(w[0]) {
         return false;
     }
-    all_run(w, 1)
+    all_run(&w[1..])
 }
 
 // Whether no white space stands at either end.

@@ -1,6 +1,6 @@
 -- A list read one token at a time: the arguments done, their ranges as noted, and the tokens of the argument being read.
 -- Assumes nothing.
-use Prim.Native.Nat.{ℕ, ◌+◌, ◌-◌, ◌<◌, ◌≤◌}
+use Prim.Native.Nat.{ℕ, ◌+◌, ◌<◌, ◌≤◌}
 use mathlib.Core.Bool.{Bool, true, false, cond}
 use mathlib.Core.List.{List, [], ◌∷◌, ◌++◌, append_assoc, append-nil}
 use mathlib.Core.Logic.{◌⊎◌, inl, inr}
@@ -12,17 +12,12 @@ use lib.ListN.{length, get_or, set, length-append, length-set, get_or-append}
 use lib.Seq.{get_or-set_same, get_or-set_other, get_or_at}
 use Rattle.brackets.specs.Stacks.{stack_of}
 use Rattle.pending.specs.declared.Item.{Item}
-use Rattle.pending.specs.declared.Seen.{Seen}
-use Rattle.pending.specs.declared.Seen.TheVariants as seen
 use Rattle.pending.specs.Pending.{Pending, View, view}
-use Rattle.pending.specs.Sources.{item_of, ItemIs, SeenBy, Spans}
+use Rattle.pending.specs.Sources.{item_of, ItemIs, Spans}
 use Rattle.pending.specs.Sources.Spans.{none}
 use Rattle.pending.proofs.Spanning.{spans_snoc}
 use Rattle.arguments.specs.Arguments.{Move, keep, part, close, fail, move_of, Args, bad, args, push, split, after, collect}
-use Rattle.arguments.specs.Moving.{MovedBy}
 use Rattle.arguments.specs.Ranges.{Ranged, placed_from, placed_to, Unplaced, Lists}
-use Rattle.arguments.specs.declared.Move as moved
-use Rattle.arguments.specs.declared.Move.TheVariants as move
 use Rattle.arguments.proofs.Moves.{by_move}
 
 -- ---- the list as read so far, and the rest
@@ -205,87 +200,72 @@ module _ {f : ℕ → List Pending} {last at : ℕ} {r₀ r : List (List ℕ)} {
       ∙ (ap (λ (ps : List Pending). gathered a.done a.current (collect ps (stack_of w depth))) e
       ∙ ap (λ (m : Move). gathered a.done a.current (after m p (f next) (λ d. collect (f next) d))) g)
 
-  module _ (s b : List ℕ) (n : Seen) (h : SeenBy n s b f last i) where
-    pub collect_end : n ≡ seen.End → collect (f at) [] ≡ bad 14 0
-    unfolding collect
-    collect_end q =
-        let e : f i ≡ [] = subst (λ (n : Seen). SeenBy n s b f last i) q h in
-        a.whole
-        ∙ (ap (λ (ps : List Pending). gathered a.done a.current (collect ps (stack_of w depth))) e
-        ∙ gathered_bad a.done a.current 14 0)
+  pub collect_end : f i ≡ [] → collect (f at) [] ≡ bad 14 0
+  unfolding collect
+  collect_end e =
+      a.whole
+      ∙ (ap (λ (ps : List Pending). gathered a.done a.current (collect ps (stack_of w depth))) e
+      ∙ gathered_bad a.done a.current 14 0)
 
-    module _ {t : Item} (q : n ≡ seen.Token t) where
-      collect_seen : ItemIs f last i (item_of s b t) t.next
-      collect_seen = subst (λ (n : Seen). SeenBy n s b f last i) q h
+  module _ (s b : List ℕ) (t : Item) (z : ItemIs f last i (item_of s b t) t.next) where
+    -- the move of the token
+    abbrev Moves : Move → Type 0
+    Moves m = move_of (view (item_of s b t)) (stack_of w depth) ≡ m
 
-      pub collect_less : last - t.next < last - i
-      collect_less = let z = collect_seen in omega (arith, z.past, z.within)
+    pub collect_keep : {w' : List ℕ} {d : ℕ} → Moves (keep (stack_of w' d)) × (d ≤ depth + 1) → length w' ≡ length w → Collecting f last at r₀ r w₀ w' from t.next k d
+    collect_keep {w'} {d} y l = record {
+      done = a.done;
+      current = a.current ++ item_of s b t ∷ [];
+      whole =
+          collect_after (keep (stack_of w' d)) z.tokens y.0
+          ∙ gathered_push a.done a.current (item_of s b t) (collect (f t.next) (stack_of w' d));
+      spans = spans_snoc a.spans z;
+      count = a.count;
+      ranged = a.ranged;
+      unplaced = a.unplaced;
+      deep = omega (arith, a.deep, z.past, y.1);
+      many = omega (arith, a.many, z.past);
+      within = z.within;
+      same_ranges = a.same_ranges;
+      same_stack = l ∙ a.same_stack;
+    }
 
-      module _ (m : moved.Move) (w' : List ℕ) (g : MovedBy m (move_of (view (item_of s b t)) (stack_of w depth)) w w' depth) where
-        moved_as : {m' : moved.Move} → m ≡ m' → MovedBy m' (move_of (view (item_of s b t)) (stack_of w depth)) w w' depth
-        moved_as e = subst (λ (m : moved.Move). MovedBy m (move_of (view (item_of s b t)) (stack_of w depth)) w w' depth) e g
+    pub collect_fail : {x y : ℕ} → Moves (fail x y) → collect (f at) [] ≡ bad x y
+    collect_fail {x} {y} e = collect_after (fail x y) z.tokens e ∙ gathered_bad a.done a.current x y
 
-        pub collect_keep : {d : ℕ} → m ≡ move.Keep d → length w' ≡ length w → Collecting f last at r₀ r w₀ w' from t.next k d
-        collect_keep {d} e l =
-            let z = collect_seen in
-            let y = moved_as e in
-            record {
-              done = a.done;
-              current = a.current ++ item_of s b t ∷ [];
-              whole =
-                  collect_after (keep (stack_of w' d)) z.tokens y.0
-                  ∙ gathered_push a.done a.current (item_of s b t) (collect (f t.next) (stack_of w' d));
-              spans = spans_snoc a.spans z;
-              count = a.count;
-              ranged = a.ranged;
-              unplaced = a.unplaced;
-              deep = omega (arith, a.deep, z.past, y.1);
-              many = omega (arith, a.many, z.past);
-              within = z.within;
-              same_ranges = a.same_ranges;
-              same_stack = l ∙ a.same_stack;
-            }
+    -- the range of the argument is noted
+    module _ {r' : List (List ℕ)} (v : r' ≡ set r k (from ∷ i ∷ 1 ∷ 0 ∷ [])) where
+      noted : Ranged f last r' (a.done ++ a.current ∷ [])
+      noted =
+          subst (λ (x : List (List ℕ)). Ranged f last x (a.done ++ a.current ∷ [])) (sym v)
+          (ranged_set r a.done k from i a.current a.ranged a.count a.spans a.within)
 
-        pub collect_fail : {x y : ℕ} → m ≡ move.Fail x y → collect (f at) [] ≡ bad x y
-        collect_fail {x} {y} e = collect_after (fail x y) collect_seen.tokens (moved_as e) ∙ gathered_bad a.done a.current x y
+      still : Unplaced r' (k + 1)
+      still = subst (λ (x : List (List ℕ)). Unplaced x (k + 1)) (sym v) (unplaced_set r k from i a.unplaced)
 
-        -- the range of the argument is noted
-        module _ {r' : List (List ℕ)} (v : r' ≡ set r k (from ∷ i ∷ 1 ∷ 0 ∷ [])) where
-          noted : Ranged f last r' (a.done ++ a.current ∷ [])
-          noted =
-              subst (λ (x : List (List ℕ)). Ranged f last x (a.done ++ a.current ∷ [])) (sym v)
-              (ranged_set r a.done k from i a.current a.ranged a.count a.spans a.within)
+      counted : k + 1 ≡ length (a.done ++ a.current ∷ [])
+      counted = rw length-append (omega (arith, a.count))
 
-          still : Unplaced r' (k + 1)
-          still = subst (λ (x : List (List ℕ)). Unplaced x (k + 1)) (sym v) (unplaced_set r k from i a.unplaced)
+      pub collect_part : {w' : List ℕ} → Moves part × (w' ≡ w) → length w' ≡ length w → Collecting f last at r₀ r' w₀ w' t.next t.next (k + 1) depth
+      collect_part {w'} y l =
+          let due : stack_of w' depth ≡ [] = ap (λ (x : List ℕ). stack_of x depth) y.1 ∙ part_due (view (item_of s b t)) (stack_of w depth) y.0 in
+          record {
+            done = a.done ++ a.current ∷ [];
+            current = [];
+            whole =
+                collect_after part z.tokens y.0
+                ∙ (gathered_split a.done a.current (collect (f t.next) [])
+                ∙ ap (λ (x : List ℕ). gathered (a.done ++ a.current ∷ []) [] (collect (f t.next) x)) (sym due));
+            spans = none;
+            count = counted;
+            ranged = noted;
+            unplaced = still;
+            deep = omega (arith, a.deep, z.past);
+            many = omega (arith, a.many, z.past);
+            within = z.within;
+            same_ranges = ap length v ∙ (length-set r k (from ∷ i ∷ 1 ∷ 0 ∷ []) ∙ a.same_ranges);
+            same_stack = l ∙ a.same_stack;
+          }
 
-          counted : k + 1 ≡ length (a.done ++ a.current ∷ [])
-          counted = rw length-append (omega (arith, a.count))
-
-          pub collect_part : m ≡ move.Part → length w' ≡ length w → Collecting f last at r₀ r' w₀ w' t.next t.next (k + 1) depth
-          collect_part e l =
-              let z = collect_seen in
-              let y = moved_as e in
-              let due : stack_of w' depth ≡ [] = ap (λ (x : List ℕ). stack_of x depth) y.1 ∙ part_due (view (item_of s b t)) (stack_of w depth) y.0 in
-              record {
-                done = a.done ++ a.current ∷ [];
-                current = [];
-                whole =
-                    collect_after part z.tokens y.0
-                    ∙ (gathered_split a.done a.current (collect (f t.next) [])
-                    ∙ ap (λ (x : List ℕ). gathered (a.done ++ a.current ∷ []) [] (collect (f t.next) x)) (sym due));
-                spans = none;
-                count = counted;
-                ranged = noted;
-                unplaced = still;
-                deep = omega (arith, a.deep, z.past);
-                many = omega (arith, a.many, z.past);
-                within = z.within;
-                same_ranges = ap length v ∙ (length-set r k (from ∷ i ∷ 1 ∷ 0 ∷ []) ∙ a.same_ranges);
-                same_stack = l ∙ a.same_stack;
-              }
-
-          pub collect_close : m ≡ move.Close → Lists (collect (f at) []) f last r' (k + 1) t.next
-          collect_close e =
-              let z = collect_seen in
-              lists_whole a.done a.current (collect_after close z.tokens (moved_as e)) counted noted still z.within
+      pub collect_close : Moves close → Lists (collect (f at) []) f last r' (k + 1) t.next
+      collect_close e = lists_whole a.done a.current (collect_after close z.tokens e) counted noted still z.within

@@ -1,21 +1,19 @@
 -- What a token does in a list, as the code finds it: by what its byte does among brackets, by its kind, by whether it is barred.
 -- Assumes nothing.
-use Prim.Native.Nat.{ℕ, ◌+◌, ◌*◌, ◌<◌, ◌≤◌}
+use Prim.Native.Nat.{ℕ, ◌+◌, ◌<◌, ◌≤◌}
 use mathlib.Core.Bool.{Bool, true, false, cond, ◌||◌}
 use mathlib.Core.List.{List, [], ◌∷◌}
-use mathlib.Core.Logic.{inl, inr}
 use mathlib.Core.Path.{◌≡◌, refl, sym, ap, ◌∙◌, subst}
-use native.Mathlib.Omega.{arith}
 use lib.Dec.{eqb}
-use lib.ListN.{length, get_or}
+use lib.ListN.{get_or}
 use borrow.Author.Tests.{eqb-true, eq-eqb, ne_eqb, lt-ltb, le-ltb}
 use Rattle.lex.specs.Tokens.{Name, Escaped, Quote, Grave, Byte}
 use Rattle.names.specs.Names.{is_directive, directive_of}
 use Rattle.brackets.specs.Steps.{Step, on, done, torn, step_of}
-use Rattle.brackets.specs.Stacks.{stack_of, Full, SteppedBy}
+use Rattle.brackets.specs.Stacks.{stack_of, SteppedBy}
 use Rattle.brackets.specs.declared.Stepped.{Stepped}
 use Rattle.brackets.specs.declared.Stepped.TheVariants as stepped
-use Rattle.brackets.proofs.Stacking.{stepped_on, stepped_done, stepped_torn, stepped_short}
+use Rattle.brackets.proofs.Stacking.{stepped_on, stepped_done, stepped_torn}
 use Rattle.pending.specs.declared.Item.{Item}
 use Rattle.pending.specs.Pending.{View, blanks, calls, names, opens, closes, commas, bars, plain, is_barred, byte_view, is_blank, kind_view, view}
 use Rattle.pending.specs.References.{raw_of, pending_by}
@@ -130,14 +128,6 @@ module _ (b : ℕ) (w w' : List ℕ) (n : ℕ) (r : Stepped) (h : SteppedBy r (s
 
   pub byte_fail : r ≡ stepped.Torn → Moves (fail 14 0)
   byte_fail e = as_step b (stack_of w n) ∙ ap (move_as b) (stepped_torn r (step_of b (stack_of w n)) w w' n h e).0
-
-  -- there is room
-  pub byte_room : {A : Type 0} → r ≡ stepped.Short → n < 4 * length w → n < 65536 → A
-  byte_room {A} e l g = no (stepped_short r (step_of b (stack_of w n)) w w' n h e)
-    where
-      no : Full w n → A
-      no (inl k) = absurd (omega arith)
-      no (inr k) = absurd (omega arith)
 
 -- ---- a token that nothing bars, by its kind k, its first byte b and its name w
 

@@ -3,23 +3,17 @@
 use Prim.Native.Nat.{ℕ, ◌≤◌}
 use mathlib.Core.Bool.{Bool, true, false, cond, ◌||◌}
 use mathlib.Core.List.{List, [], ◌∷◌}
-use mathlib.Core.Path.{◌≡◌, refl, sym, ◌∙◌, subst}
+use mathlib.Core.Path.{◌≡◌, refl, ◌∙◌, subst}
 use lib.Dec.{eqb}
 use lib.ListN.{get_or}
 use borrow.Author.Tests.{ne_eqb}
 use Rattle.lex.specs.Tokens.{Name, Escaped, Quote, Grave, Byte}
 use Rattle.names.specs.Names.{is_directive, bars_text}
 use Rattle.pending.specs.declared.Item.{Item}
-use Rattle.pending.specs.declared.Seen.{Seen}
-use Rattle.pending.specs.declared.Seen.TheVariants as seen
 use Rattle.pending.specs.Pending.{Pending, View, calls, names, opens, closes, commas, bars, plain, is_blank, grave_view, byte_view, kind_view, view}
 use Rattle.pending.specs.References.{raw_of, pending_by}
-use Rattle.pending.specs.Sources.{item_of, ItemIs, SeenBy}
+use Rattle.pending.specs.Sources.{item_of, ItemIs}
 use Rattle.arguments.specs.Arguments.{Args, bad, collect, seek_by, seek}
-use Rattle.arguments.specs.Ranges.{OpenedBy, SoughtBy, Listable}
-use Rattle.arguments.specs.declared.Opened.{Opened}
-use Rattle.arguments.specs.declared.Opened.TheVariants as opened
-use Rattle.arguments.specs.declared.Sought.{Sought}
 use Rattle.arguments.proofs.Moves.{item_shut, item_clear}
 
 -- ---- a token that nothing bars, by its kind k, its first byte b and its name w
@@ -75,57 +69,37 @@ seek_one : (ps : List Pending) (p : Pending) (qs : List Pending) → ps ≡ p �
 unfolding seek
 seek_one ps p qs e = rw e
 
-module _ (f : ℕ → List Pending) (last i : ℕ) (s b : List ℕ) (r : Seen) (h : SeenBy r s b f last i) where
-  pub opening_out : r ≡ seen.End → seek (f i) ≡ bad 14 0
-  unfolding seek
-  opening_out e = let q : f i ≡ [] = subst (λ (r : Seen). SeenBy r s b f last i) e h in rw q
+pub opening_out : {ps : List Pending} → ps ≡ [] → seek ps ≡ bad 14 0
+unfolding seek
+opening_out q = rw q
 
-  -- the token t
-  module _ (t : Item) (e : r ≡ seen.Token t) where
-    pub opening_item : ItemIs f last i (item_of s b t) t.next
-    opening_item = subst (λ (r : Seen). SeenBy r s b f last i) e h
+-- .. with the token t
+module _ {f : ℕ → List Pending} {last i : ℕ} (s b : List ℕ) (t : Item) (h : ItemIs f last i (item_of s b t) t.next) where
+  abbrev Goes : View → Type 0
+  Goes v = seek (f i) ≡ seek_by v (collect (f t.next) []) (seek (f t.next))
 
-    abbrev Goes : View → Type 0
-    Goes v = seek (f i) ≡ seek_by v (collect (f t.next) []) (seek (f t.next))
+  goes : Goes (view (item_of s b t))
+  goes = seek_one (f i) (item_of s b t) (f t.next) h.tokens
 
-    goes : Goes (view (item_of s b t))
-    goes = seek_one (f i) (item_of s b t) (f t.next) opening_item.tokens
+  pub opening_shut : (t.bar ≡ 0 → ⊥) → seek (f i) ≡ bad t.bar t.at
+  opening_shut g = subst (λ (v : View). Goes v) (item_shut s b t g) goes
 
-    pub opening_shut : (t.bar ≡ 0 → ⊥) → seek (f i) ≡ bad t.bar t.at
-    opening_shut g = subst (λ (v : View). Goes v) (item_shut s b t g) goes
+  module _ (g : t.bar ≡ 0) where
+    clear : (x : ℕ) → x ≡ get_or (raw_of s b t.pend) 0 0 → Goes (kind_view t.pend.kind x (pending_by s b t.pend).name)
+    clear x q = subst (λ (v : View). Goes v) (item_clear s b t x (pending_by s b t.pend).name g q refl) goes
 
-    module _ (g : t.bar ≡ 0) where
-      clear : (x : ℕ) → x ≡ get_or (raw_of s b t.pend) 0 0 → Goes (kind_view t.pend.kind x (pending_by s b t.pend).name)
-      clear x q = subst (λ (v : View). Goes v) (item_clear s b t x (pending_by s b t.pend).name g q refl) goes
+    any : Goes (kind_view t.pend.kind (get_or (raw_of s b t.pend) 0 0) (pending_by s b t.pend).name)
+    any = clear (get_or (raw_of s b t.pend) 0 0) refl
 
-      any : Goes (kind_view t.pend.kind (get_or (raw_of s b t.pend) 0 0) (pending_by s b t.pend).name)
-      any = clear (get_or (raw_of s b t.pend) 0 0) refl
+    pub opening_blank : is_blank t.pend.kind ≡ true → seek (f i) ≡ seek (f t.next)
+    opening_blank q = any ∙ by_blank _ _ _ _ _ q
 
-      pub opening_blank : (y : Bool) → y ≡ is_blank t.pend.kind → y ≡ true → seek (f i) ≡ seek (f t.next)
-      opening_blank y p q = any ∙ by_blank _ _ _ _ _ (sym p ∙ q)
+    pub opening_other : is_blank t.pend.kind ≡ false → (t.pend.kind ≡ Byte → ⊥) → seek (f i) ≡ bad 14 0
+    opening_other q k = any ∙ by_other _ _ _ _ _ q k
 
-      pub opening_other : (y : Bool) → y ≡ is_blank t.pend.kind → y ≡ false → (t.pend.kind ≡ Byte → ⊥) → seek (f i) ≡ bad 14 0
-      opening_other y p q k = any ∙ by_other _ _ _ _ _ (sym p ∙ q) k
+    module _ (k : t.pend.kind ≡ Byte) {x : ℕ} (q : x ≡ get_or (raw_of s b t.pend) 0 0) where
+      pub opening_here : x ≡ 40 → (seek (f i) ≡ collect (f t.next) []) × (t.next ≤ last)
+      opening_here z = (clear x q ∙ by_open _ _ _ _ _ k z, h.within)
 
-      module _ (k : t.pend.kind ≡ Byte) (x : ℕ) (q : x ≡ get_or (raw_of s b t.pend) 0 0) where
-        pub opening_here : x ≡ 40 → (seek (f i) ≡ collect (f t.next) []) × (t.next ≤ last)
-        opening_here z = (clear x q ∙ by_open _ _ _ _ _ k z, opening_item.within)
-
-        pub opening_closed : (x ≡ 40 → ⊥) → seek (f i) ≡ bad 14 0
-        opening_closed z = clear x q ∙ by_closed _ _ _ _ _ k z
-
--- ---- where the list is opened
-
-module _ (f : ℕ → List Pending) (last i : ℕ) (o : Opened) (h : OpenedBy o f last i) where
-  pub opened_at : (k : ℕ) → o ≡ opened.At k → (seek (f i) ≡ collect (f k) []) × (k ≤ last)
-  opened_at k e = subst (λ (o : Opened). OpenedBy o f last i) e h
-
-  pub opened_not : (n p : ℕ) → o ≡ opened.Refused n p → seek (f i) ≡ bad n p
-  opened_not n p e = subst (λ (o : Opened). OpenedBy o f last i) e h
-
-  -- the list behind it is the list sought
-  pub opened_sought : (k : ℕ) → o ≡ opened.At k → (q : Sought) (r : List (List ℕ)) → SoughtBy q (collect (f k) []) f last r → SoughtBy q (seek (f i)) f last r
-  opened_sought k e q r g = subst (λ (a : Args). SoughtBy q a f last r) (sym (opened_at k e).0) g
-
-  pub opened_listable : {s : List ℕ} {l : List (List ℕ)} {n : ℕ} {w : List ℕ} (k : ℕ) → o ≡ opened.At k → Listable s l n last i w → Listable s l n last k w
-  opened_listable k e g = record { filled = g.filled; small = g.small; inside = (opened_at k e).1; brackets = g.brackets }
+      pub opening_closed : (x ≡ 40 → ⊥) → seek (f i) ≡ bad 14 0
+      opening_closed z = clear x q ∙ by_closed _ _ _ _ _ k z

@@ -1,12 +1,9 @@
 -- Arguments as ranges of positions, where a list is sought.
 -- Assumes nothing.
-use Rattle.std.specs.Prelude.{ℕ, ◌<◌, ◌≤◌, ◌≡◌, List, [], ◌∷◌, length, get_or}
+use Rattle.std.specs.Prelude.{ℕ, ◌<◌, ◌≤◌, ◌≡◌, List, [], ◌∷◌, length, get_or, Result, Ok, Err}
+use Rattle.lex.specs.declared.Fault.{Fault}
 use Rattle.pending.specs.Pending.{Pending}
 use Rattle.pending.specs.Sources.{Spans}
-use Rattle.arguments.specs.declared.Opened.{Opened}
-use Rattle.arguments.specs.declared.Opened.TheVariants as opened
-use Rattle.arguments.specs.declared.Sought.{Sought}
-use Rattle.arguments.specs.declared.Sought.TheVariants as sought
 use Rattle.arguments.specs.Arguments.{Args, bad, args, seek, collect}
 
 -- range k of r: where argument k stands in its list, and in the replacement
@@ -35,9 +32,9 @@ Ranged f last r xs =
     (k : ℕ) → k < length xs → k < length r → Spans f (range_from r k) (range_to r k) (get_or xs k []) × (range_to r k ≤ last)
 
 -- behind the `(` at i, or refused
-abbrev pub OpenedBy : Opened → (ℕ → List Pending) → ℕ → ℕ → Type 0
-OpenedBy (opened.At k) f last i = (seek (f i) ≡ collect (f k) []) × (k ≤ last)
-OpenedBy (opened.Refused n p) f last i = seek (f i) ≡ bad n p
+abbrev pub OpenedBy : Result ℕ Fault → (ℕ → List Pending) → ℕ → ℕ → Type 0
+OpenedBy (Ok k) f last i = (seek (f i) ≡ collect (f k) []) × (k ≤ last)
+OpenedBy (Err e) f last i = seek (f i) ≡ bad e.number e.place
 
 -- a list of c arguments that ends at e, these in the ranges r
 pub record Lists (g : Args) (f : ℕ → List Pending) (last : ℕ) (r : List (List ℕ)) (c e : ℕ) : Type 0 where
@@ -49,9 +46,9 @@ pub record Lists (g : Args) (f : ℕ → List Pending) (last : ℕ) (r : List (L
   pub unplaced : Unplaced r c
   pub within : e ≤ last
 
-abbrev pub SoughtBy : Sought → Args → (ℕ → List Pending) → ℕ → List (List ℕ) → Type 0
-SoughtBy (sought.List c e) g f last r = Lists g f last r c e
-SoughtBy (sought.Refused n p) g f last r = g ≡ bad n p
+abbrev pub SoughtBy : Result (ℕ × ℕ) Fault → Args → (ℕ → List Pending) → ℕ → List (List ℕ) → Type 0
+SoughtBy (Ok l) g f last r = Lists g f last r l.0 l.1
+SoughtBy (Err e) g f last r = g ≡ bad e.number e.place
 
 -- what is lent to read a list in: references, and bytes for as many brackets as there are tokens
 pub record Listable (s : List ℕ) (l : List (List ℕ)) (n : ℕ) (last at : ℕ) (w : List ℕ) : Type 0 where

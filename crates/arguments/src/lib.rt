@@ -11,9 +11,9 @@ ghost use Rattle.arguments.specs.Moving.{MovedBy};
 ghost use Rattle.arguments.specs.Ranges.{OpenedBy, SoughtBy, Listable};
 
 use brackets::{Stepped, step};
-use lex::{BYTE, GRAVE, QUOTE};
+use lex::{BYTE, Fault, GRAVE, QUOTE};
 use names::directive_of;
-use pending::{Item, Seen, first_byte, is_blank, item_at, name_of};
+use pending::{Item, first_byte, is_blank, item_at, name_of};
 
 // What a token does in a list: a part of the argument, with so many closing brackets due behind it; ends the argument; ends
 // the list; refused, with the place of 2 to 6.
@@ -25,19 +25,11 @@ pub enum Move {
     Fail(usize, usize),
 }
 
-// Behind the `(`, or refused.
-#[derive(Clone, Copy)]
-pub enum Opened {
-    At(usize),
-    Refused(usize, usize),
-}
-
-// How many arguments a list has, and where it ends; or refused, with the place of 2 to 6.
-#[derive(Clone, Copy)]
-pub enum Sought {
-    List(usize, usize),
-    Refused(usize, usize),
-}
+// No list, or one that does not end.
+const UNFINISHED: Fault = Fault {
+    number: 14,
+    place: 0,
+};
 
 // What the byte `b`, a token of its own, does in a list.
 fn byte_move(b: u8, stack: &mut [u8], depth: usize) -> Move
@@ -98,36 +90,26 @@ fn open_at<'a>(
     n: usize,
     file: bool,
     at: usize,
-) -> Opened
+) -> Result<usize, Fault>
     requires { n ≤ length list.now }
     ensures { OpenedBy result (items_from s.now b.now list.now n file) (last_of s.now n file) at }
 {
     let mut i = at;
-    loop {
-        let r = item_at(s, list, n, file, i);
-        match r {
-            Seen::End => {
-                return Opened::Refused(14, 0);
-            }
-            Seen::Token(t) => {
-                if t.bar != 0 {
-                    return Opened::Refused(t.bar, t.at);
-                }
-                let p = t.pend;
-                if is_blank(p.kind) {
-                    i = t.next;
-                    continue;
-                }
-                if p.kind != BYTE {
-                    return Opened::Refused(14, 0);
-                }
-                if first_byte(s, b, p) == 40 {
-                    return Opened::At(t.next);
-                }
-                return Opened::Refused(14, 0);
-            }
+    while let Some(t) = item_at(s, list, n, file, i) {
+        if t.bar != 0 {
+            return Err(Fault {
+                number: t.bar,
+                place: t.at,
+            });
         }
+        let p = t.pend;
+        if !is_blank(p.kind) {
+            let opens = p.kind == BYTE && first_byte(s, b, p) == 40;
+            return if opens { Ok(t.next) } else { Err(UNFINISHED) };
+        }
+        i = t.next;
     }
+    Err(UNFINISHED)
 }
 
 // Notes the range of argument `k`, which was not put in place yet, if there is one for it.
@@ -139,7 +121,7 @@ fn note(ranges: &mut [[usize; 4]], k: usize, from: usize, to: usize)
     }
 }
 
-// The list behind its `(`.
+// The list behind its `(`: how many arguments it has, and where it ends.
 fn list_at<'a>(
     s: &'a [u8],
     b: &'a [u8],
@@ -149,7 +131,7 @@ fn list_at<'a>(
     at: usize,
     ranges: &mut [[usize; 4]],
     stack: &mut [u8],
-) -> Sought
+) -> Result<(usize, usize), Fault>
     requires { Listable s.now list.now n (last_of s.now n file) at stack.old }
     ensures { SoughtBy result (collect (items_from s.now b.now list.now n file at) []) (items_from s.now b.now list.now n file) (last_of s.now n file) ranges.new }
 {
@@ -157,41 +139,26 @@ fn list_at<'a>(
     let mut from = at;
     let mut k = 0;
     let mut depth = 0;
-    loop {
-        let r = item_at(s, list, n, file, i);
-        match r {
-            Seen::End => {
-                return Sought::Refused(14, 0);
+    while let Some(t) = item_at(s, list, n, file, i) {
+        match move_of(s, b, t, stack, depth) {
+            Move::Keep(d) => depth = d,
+            Move::Part => {
+                note(ranges, k, from, i);
+                k += 1;
+                from = t.next;
             }
-            Seen::Token(t) => {
-                let m = move_of(s, b, t, stack, depth);
-                match m {
-                    Move::Keep(d) => {
-                        depth = d;
-                        i = t.next;
-                        continue;
-                    }
-                    Move::Part => {
-                        note(ranges, k, from, i);
-                        k += 1;
-                        from = t.next;
-                        i = t.next;
-                        continue;
-                    }
-                    Move::Close => {
-                        note(ranges, k, from, i);
-                        return Sought::List(k + 1, t.next);
-                    }
-                    Move::Fail(e, p) => {
-                        return Sought::Refused(e, p);
-                    }
-                }
+            Move::Close => {
+                note(ranges, k, from, i);
+                return Ok((k + 1, t.next));
             }
+            Move::Fail(number, place) => return Err(Fault { number, place }),
         }
+        i = t.next;
     }
+    Err(UNFINISHED)
 }
 
-// The list of a usage whose word ends at `at`.
+// The list of a usage whose word ends at `at`: how many arguments it has, and where it ends; or refused, with the place of 2 to 6.
 pub fn seek_list<'a>(
     s: &'a [u8],
     b: &'a [u8],
@@ -201,13 +168,10 @@ pub fn seek_list<'a>(
     at: usize,
     ranges: &mut [[usize; 4]],
     stack: &mut [u8],
-) -> Sought
+) -> Result<(usize, usize), Fault>
     requires { Listable s.now list.now n (last_of s.now n file) at stack.old }
     ensures { SoughtBy result (seek (items_from s.now b.now list.now n file at)) (items_from s.now b.now list.now n file) (last_of s.now n file) ranges.new }
 {
-    let o = open_at(s, b, list, n, file, at);
-    match o {
-        Opened::At(i) => list_at(s, b, list, n, file, i, ranges, stack),
-        Opened::Refused(k, p) => Sought::Refused(k, p),
-    }
+    let i = open_at(s, b, list, n, file, at)?;
+    list_at(s, b, list, n, file, i, ranges, stack)
 }

@@ -1,15 +1,12 @@
 -- A usage replaced: the macro's text put in its place, or the refusal.
 -- Assumes nothing.
 use Prim.Native.Nat.{ℕ, zero, suc, ◌+◌, ◌-◌, ◌<◌, ◌≤◌}
-use mathlib.Core.Bool.{Bool, true, false}
-use mathlib.Core.List.{List, [], ◌++◌}
+use mathlib.Core.Bool.{false}
+use mathlib.Core.List.{List, ◌++◌}
 use mathlib.Core.Path.{◌≡◌, refl, sym, ap, ◌∙◌}
 use native.Mathlib.Omega.{arith}
-use lib.Dec.{leb, ltb}
 use lib.ListN.{length, take, drop, get_or, length-append}
-use borrow.Author.Tests.{leb-true, leb-false, lt-ltb, le-ltb}
-use Rattle.lex.specs.Tokens.{in_file}
-use Rattle.lex.proofs.Progress.{token-at}
+use borrow.Author.Tests.{lt-ltb}
 use Rattle.definition.specs.Definitions.{Parameter, Macro, macro}
 use Rattle.packed.specs.Records.{blank_record, RecordIs}
 use Rattle.packed.specs.declared.Record.{Record}
@@ -17,25 +14,21 @@ use Rattle.store.specs.Stores.{macro_at, macro_text, find}
 use Rattle.store.specs.Buffers.{Holds}
 use Rattle.sets.specs.Sets.{insert_asc}
 use Rattle.writing.specs.Written.{Room}
-use Rattle.pending.specs.Pending.{Pending, file_from}
+use Rattle.pending.specs.Pending.{Pending}
 use Rattle.pending.specs.References.{pendings, stacked}
 use Rattle.pending.specs.Sources.{items_from}
 use Rattle.pending.specs.Adding.{Adds, AddsBy}
-use Rattle.pending.specs.declared.Pushed.{Pushed}
-use Rattle.pending.specs.declared.Pushed.TheVariants as pushed
-use Rattle.pending.proofs.Seeing.{from_out, from_more, stacked_length}
+use Rattle.pending.proofs.Seeing.{stacked_length}
 use Rattle.arguments.specs.Ranges.{Ranged}
-use Rattle.arguments.specs.declared.Sought.{Sought}
-use Rattle.arguments.specs.declared.Sought.TheVariants as sought
+use Rattle.lex.specs.declared.Fault.{Fault}
 use Rattle.replace.specs.Tidying.{tidy_all}
 use Rattle.replace.specs.Placing.{MacroIn, UsageIn, Stacks}
 use Rattle.replace.specs.Replacing.{barred, Got, refused, got, text_with, list_for, with_list, replace_by, replace, deepest}
-use Rattle.expand.specs.declared.usages.Called.{Called}
-use Rattle.expand.specs.declared.usages.Called.TheVariants as called
+use Rattle.std.proofs.Common.{Option, Some, None, Result, Ok, Err}
 use Rattle.expand.specs.declared.Stand.{Stand}
 use Rattle.expand.specs.declared.Turn.{Turn}
 use Rattle.expand.specs.declared.Turn.TheVariants as turn
-use Rattle.expand.specs.Expanding.{Outer, ends, replacing, on_got, walk, onward, first, goes_on, expand}
+use Rattle.expand.specs.Expanding.{Outer, ends, on_got, onward}
 use Rattle.expand.specs.Standing.{CalledBy, Accepts, AcceptedBy, left_of, replaced_to, Puts, PutBy, ReplacedBy}
 use Rattle.expand.proofs.Calling.{formals_of, macro_in}
 
@@ -55,21 +48,21 @@ puts_17 q rest limit z h k o ms r =
     rw (e, lt-ltb 1024 (length (q ++ rest)) k)
 
 -- what the code knows once the text is read: its tokens added to o, which is o' then
-module _ (s b : List ℕ) (o o' : List (List ℕ)) (base : ℕ) (q : List Pending) (w : Pushed) (a : AddsBy w s b o o' (1024 - base) 0 q) where
-  pub fits_list : (m : ℕ) → w ≡ pushed.Upto m → base ≤ 1024 → base + m ≤ 1024
+module _ (s b : List ℕ) (o o' : List (List ℕ)) (base : ℕ) (q : List Pending) (w : Option ℕ) (a : AddsBy w s b o o' (1024 - base) 0 q) where
+  pub fits_list : (m : ℕ) → w ≡ Some m → base ≤ 1024 → base + m ≤ 1024
   fits_list m e h = let d : Adds s b o o' (1024 - base) 0 m q = rw e at a in omega (arith, d.fits)
 
-  pub fits_out : (m : ℕ) → w ≡ pushed.Upto m → 1024 ≤ length o → m ≤ length o'
+  pub fits_out : (m : ℕ) → w ≡ Some m → 1024 ≤ length o → m ≤ length o'
   fits_out m e h = let d : Adds s b o o' (1024 - base) 0 m q = rw e at a in omega (arith, d.fits, d.same_length)
 
-  pub puts_full : (l : List (List ℕ)) (limit : ℕ) (z : Stand) → w ≡ pushed.Full → base ≤ 1024 → z.count < limit
+  pub puts_full : (l : List (List ℕ)) (limit : ℕ) (z : Stand) → w ≡ None → base ≤ 1024 → z.count < limit
       → (u : Outer) (ms : List Macro) (r : Room) → onward (left_of limit z) u ms q (stacked s b l base) r ≡ ends 17 0 r
   puts_full l limit z e h c =
       let d : (1024 - base < 0 + length q) × (length o' ≡ length o) = rw e at a in
       let n : length (stacked s b l base) ≡ base = stacked_length s b l base in
       puts_17 q (stacked s b l base) limit z c (omega (arith, d.0, length-append q (stacked s b l base)))
 
-  pub puts_on : {l l' : List (List ℕ)} {d : ℕ} (m limit : ℕ) (z z' : Stand) → w ≡ pushed.Upto m → base ≤ 1024 → z.count < limit → Stacks s b l l' base o' m d
+  pub puts_on : {l l' : List (List ℕ)} {d : ℕ} (m limit : ℕ) (z z' : Stand) → w ≡ Some m → base ≤ 1024 → z.count < limit → Stacks s b l l' base o' m d
       → z' ≡ replaced_to z (base + m) d → Puts s b l' q (stacked s b l base) limit z z'
   unfolding pendings
   puts_on {l} {l'} {d} m limit z z' e h c k g =
@@ -100,22 +93,17 @@ items_list s b l n e h = stacked_drop s b l n e h
 pub items_all : (s b : List ℕ) (l : List (List ℕ)) (n : ℕ) → items_from s b l n false 0 ≡ stacked s b l n
 items_all s b l n = let e : n - 0 ≡ n = omega arith in items_list s b l n 0 (omega arith) ∙ ap (stacked s b l) e
 
--- in the file
-pub items_file : (s b : List ℕ) (l : List (List ℕ)) (n e : ℕ) → items_from s b l n true e ≡ file_from s e
-unfolding items_from
-items_file s b l n e = refl
-
 -- ---- the answer to a replacement
 
 replace-by : (m : Macro) (set : List ℕ) (ps : List Pending) → replace_by m set ps ≡ with_list set (formals_of m) (macro_text m) (list_for (formals_of m) ps)
 replace-by (macro n fs t) set ps = refl
 
 module _ (ms : List Macro) (w set : List ℕ) (ps : List Pending) where
-  replace_refused : (n k : ℕ) → CalledBy (called.Refused k) (find w ms) ms set n → replace ms w set ps ≡ refused k 0
+  replace_refused : (n k : ℕ) → CalledBy (Err k) (find w ms) ms set n → replace ms w set ps ≡ refused k 0
   unfolding replace
   replace_refused n k h = h ps
 
-  module _ (n i : ℕ) (h : CalledBy (called.Macro i) (find w ms) ms set n) where
+  module _ (n i : ℕ) (h : CalledBy (Ok i) (find w ms) ms set n) where
     replace_macro : replace ms w set ps ≡ with_list (insert_asc i set) (formals_of (macro_at ms i)) (macro_text (macro_at ms i)) (list_for (formals_of (macro_at ms i)) ps)
     unfolding replace
     replace_macro = rw (h.0, h.1) (replace-by (macro_at ms i) (insert_asc i set) ps)
@@ -134,19 +122,19 @@ pub record Gives (u : Turn) (s b : List ℕ) (l' : List (List ℕ)) (g : Got) (n
   pub put : PutBy u s b l' new rest limit z
 
 -- what the code knows of a usage of w, of bytes and records that hold ms: the answer o to the search for the macro
-module _ {ms : List Macro} {b : List ℕ} {r : List (List ℕ)} {n : ℕ} (h : Holds ms b r n) (w set : List ℕ) (o : Called) (a : CalledBy o (find w ms) ms set n) where
-  pub called_refused : (k : ℕ) → o ≡ called.Refused k → (ps : List Pending) → replace ms w set ps ≡ refused k 0
-  called_refused k e ps = let d : CalledBy (called.Refused k) (find w ms) ms set n = rw e at a in replace_refused ms w set ps n k d
+module _ {ms : List Macro} {b : List ℕ} {r : List (List ℕ)} {n : ℕ} (h : Holds ms b r n) (w set : List ℕ) (o : Result ℕ ℕ) (a : CalledBy o (find w ms) ms set n) where
+  pub called_refused : (k : ℕ) → o ≡ Err k → (ps : List Pending) → replace ms w set ps ≡ refused k 0
+  called_refused k e ps = let d : CalledBy (Err k) (find w ms) ms set n = rw e at a in replace_refused ms w set ps n k d
 
-  module _ (i : ℕ) (e : o ≡ called.Macro i) where
-    called_macro : CalledBy (called.Macro i) (find w ms) ms set n
+  module _ (i : ℕ) (e : o ≡ Ok i) where
+    called_macro : CalledBy (Ok i) (find w ms) ms set n
     called_macro = rw e at a
 
     pub called_below : i < n
     called_below = called_macro.2
 
     -- .. its record q, and the answer y to the search for its list
-    module _ (small : length b ≤ 65536) {q : Record} (k : RecordIs (get_or r i blank_record) q) (f : ℕ → List Pending) (last : ℕ) (ranges : List (List ℕ)) (ps : List Pending) (y : Sought)
+    module _ (small : length b ≤ 65536) {q : Record} (k : RecordIs (get_or r i blank_record) q) (f : ℕ → List Pending) (last : ℕ) (ranges : List (List ℕ)) (ps : List Pending) (y : Result (ℕ × ℕ) Fault)
         (g : (fs : List Parameter) (t : List ℕ) → MacroIn b q fs t → AcceptedBy y (list_for fs ps) f last ranges) where
       lies : MacroIn b q (formals_of (macro_at ms i)) (macro_text (macro_at ms i))
       lies = macro_in h small i called_below k
@@ -154,10 +142,10 @@ module _ {ms : List Macro} {b : List ℕ} {r : List (List ℕ)} {n : ℕ} (h : H
       answers : AcceptedBy y (list_for (formals_of (macro_at ms i)) ps) f last ranges
       answers = g (formals_of (macro_at ms i)) (macro_text (macro_at ms i)) lies
 
-      pub list_barred : (v p : ℕ) → y ≡ sought.Refused v p → replace ms w set ps ≡ refused v p
-      list_barred v p d = let x : list_for (formals_of (macro_at ms i)) ps ≡ barred v p = rw d at answers in replace_barred ms w set ps n i called_macro v p x
+      pub list_barred : (v : Fault) → y ≡ Err v → replace ms w set ps ≡ refused v.number v.place
+      list_barred v d = let x : list_for (formals_of (macro_at ms i)) ps ≡ barred v.number v.place = rw d at answers in replace_barred ms w set ps n i called_macro v.number v.place x
 
-      module _ (c end : ℕ) (d : y ≡ sought.List c end) where
+      module _ (c end : ℕ) (d : y ≡ Ok (c, end)) where
         list_accepted : Accepts (list_for (formals_of (macro_at ms i)) ps) f last ranges c end
         list_accepted = rw d at answers
 
@@ -207,44 +195,3 @@ replaced_list s b l l' n e ms w set limit z u h g =
     replaced_by s b l' ms limit z u (replace ms w set (stacked s b l n)) g.new (stacked s b l (n - e))
     (ap (replace ms w set) (sym (items_all s b l n)) ∙ g.shape ∙ ap (got g.new) (items_list s b l n e h))
     g.put
-
--- ---- a usage in the file
-
--- what a usage in the file is replaced by
-pub first_is : (ms : List Macro) (w s b : List ℕ) (l : List (List ℕ)) (n i : ℕ) (set : List ℕ) → set ≡ []
-    → first ms w s i ≡ replace ms w set (items_from s b l n true i)
-unfolding first items_from
-first_is ms w s b l n i set e = rw e
-
-pub expand_refused : (n : ℕ) (o : Outer) (ms : List Macro) (r : Room) (w s : List ℕ) (i k p : ℕ) → first ms w s i ≡ refused k p → expand n o ms r w s i ≡ ends k p r
-unfolding expand
-expand_refused n o ms r w s i k p e = rw e
-
-pub expand_got : (n : ℕ) (o : Outer) (ms : List Macro) (r : Room) (w s : List ℕ) (i : ℕ) (new next : List Pending) → first ms w s i ≡ got new next
-    → expand n o ms r w s i ≡ onward n o ms new [] r
-unfolding expand
-expand_got n o ms r w s i new next e = rw e
-
--- where the file goes on behind a list that ends at e
-pub goes_on_lem : (s : List ℕ) (new : List Pending) (e : ℕ) → e ≤ length s → goes_on s (got new (file_from s e)) ≡ e
-goes_on_lem s new e h = go (leb (length s) e) refl
-  where
-    go : (t : Bool) → leb (length s) e ≡ t → goes_on s (got new (file_from s e)) ≡ e
-    go true q =
-        let k : length s ≤ e = leb-true (length s) e q in
-        let z : length s ≡ e = omega arith in
-        ap (λ (x : List Pending). goes_on s (got new x)) (from_out s e k) ∙ z
-    go false q = ap (λ (x : List Pending). goes_on s (got new x)) (from_more s e (leb-false (length s) e q)) ∙ token-at in_file s e
-
--- ---- how an expansion goes on after a replacement
-
-pub onward_puts : {s b : List ℕ} {l' : List (List ℕ)} {q rest : List Pending} {limit : ℕ} {z z' : Stand} → Puts s b l' q rest limit z z' → (o : Outer) (ms : List Macro) (r : Room)
-    → onward (left_of limit z) o ms q rest r ≡ replacing (deepest q) (walk (onward (left_of limit z') o ms) o ms r (stacked s b l' z'.depth))
-unfolding onward
-onward_puts {s} {b} {l'} {q} {rest} {limit} {z} {z'} h o ms r =
-    let c : z'.count ≡ z.count + 1 = ap (λ (x : Stand). x.count) h.stand in
-    let d : z'.depth ≡ length (q ++ rest) = ap (λ (x : Stand). x.depth) h.stand in
-    let k : limit - z.count ≡ suc (limit - z'.count) = omega (arith, h.allowed) in
-    let t : ltb 1024 (length (q ++ rest)) ≡ false = le-ltb 1024 (length (q ++ rest)) h.few in
-    let p : stacked s b l' z'.depth ≡ q ++ rest = ap (stacked s b l') d ∙ h.tokens in
-    rw (k, t, p)

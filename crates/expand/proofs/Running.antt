@@ -27,16 +27,14 @@ use Rattle.pending.specs.References.{pending_by, pend_of, blank, stacked}
 use Rattle.pending.specs.Sources.{items_from}
 use Rattle.pending.proofs.Seeing.{from_out, from_more}
 use Rattle.pending.proofs.Viewing.{not_usage}
-use Rattle.arguments.specs.declared.Sought.{Sought}
-use Rattle.arguments.specs.declared.Sought.TheVariants as sought
+use Rattle.lex.specs.declared.Fault.{Fault}
 use Rattle.arguments.specs.Ranges.{Ranged}
 use Rattle.packed.specs.Records.{blank_record, RecordIs}
 use Rattle.packed.specs.declared.Record.{Record}
 use Rattle.replace.specs.Tidying.{tidy_all}
 use Rattle.replace.specs.Placing.{MacroIn, UsageIn}
 use Rattle.replace.specs.Replacing.{Listed, list_for, with_list, text_with, Got, refused, got, replace_by, replace, deepest}
-use Rattle.expand.specs.declared.usages.Called.{Called}
-use Rattle.expand.specs.declared.usages.Called.TheVariants as called
+use Rattle.std.proofs.Common.{Result, Ok, Err}
 use Rattle.expand.specs.declared.Stand.{Stand}
 use Rattle.expand.specs.declared.Turn.{Turn}
 use Rattle.expand.specs.declared.Turn.TheVariants as turn
@@ -216,9 +214,6 @@ pub record Kept (l₀ l o₀ o r₀ r : List (List ℕ)) (k₀ k w₀ w t₀ t m
   pub text : length t ≡ length t₀
   pub map : length m ≡ length m₀
 
-pub kept_none : {l o r : List (List ℕ)} {k w t m : List ℕ} → Kept l l o o r r k k w w t t m m
-kept_none = record { list = refl; out = refl; ranges = refl; stack = refl; work = refl; text = refl; map = refl }
-
 pub kept_more : {l₀ l l' o₀ o o' r₀ r r' : List (List ℕ)} {k₀ k k' w₀ w w' t₀ t t' m₀ m m' : List ℕ} → Kept l₀ l o₀ o r₀ r k₀ k w₀ w t₀ t m₀ m
     → length l' ≡ length l → length o' ≡ length o → length r' ≡ length r → length k' ≡ length k → length w' ≡ length w → length t' ≡ length t → length m' ≡ length m
     → Kept l₀ l' o₀ o' r₀ r' k₀ k' w₀ w' t₀ t' m₀ m'
@@ -268,15 +263,15 @@ goes_on_lem s q e h = go (leb (length s) e) refl
     go true f = let g : length s ≤ e = leb-true (length s) e f in rw (from_out s e g) (omega arith)
     go false f = rw (from_more s e (leb-false (length s) e f)) (token-at in_file s e)
 
-module _ (ms : List Macro) (w s : List ℕ) (at : ℕ) {set : List ℕ} (none : set ≡ []) (n : ℕ) (c : Called) (named : CalledBy c (find w ms) ms set n) where
-  pub first_refused : {k : ℕ} → c ≡ called.Refused k → first ms w s at ≡ refused k 0
+module _ (ms : List Macro) (w s : List ℕ) (at : ℕ) {set : List ℕ} (none : set ≡ []) (n : ℕ) (c : Result ℕ ℕ) (named : CalledBy c (find w ms) ms set n) where
+  pub first_refused : {k : ℕ} → c ≡ Err k → first ms w s at ≡ refused k 0
   unfolding first replace
   first_refused {k} e =
-      let f : CalledBy (called.Refused k) (find w ms) ms set n = rw e at named in
+      let f : CalledBy (Err k) (find w ms) ms set n = rw e at named in
       rw none at (f (file_from s at))
 
-  module _ {i : ℕ} (e : c ≡ called.Macro i) where
-    named_at : CalledBy (called.Macro i) (find w ms) ms set n
+  module _ {i : ℕ} (e : c ≡ Ok i) where
+    named_at : CalledBy (Ok i) (find w ms) ms set n
     named_at = rw e at named
 
     pub named_small : i < n
@@ -286,15 +281,15 @@ module _ (ms : List Macro) (w s : List ℕ) (at : ℕ) {set : List ℕ} (none : 
     unfolding first replace elem
     first_listed = rw named_at.0 (replace_parts (macro_at ms i) (insert_asc i []) (file_from s at))
 
-    module _ (b : List ℕ) (l ranges : List (List ℕ)) (a : Sought)
+    module _ (b : List ℕ) (l ranges : List (List ℕ)) (a : Result (ℕ × ℕ) Fault)
         (found : AcceptedBy a (list_for (formals_of (macro_at ms i)) (items_from s b l 0 true at)) (items_from s b l 0 true) (length s) ranges) where
-      first_barred : {k p : ℕ} → a ≡ sought.Refused k p → first ms w s at ≡ refused k p
+      first_barred : {k : Fault} → a ≡ Err k → first ms w s at ≡ refused k.number k.place
       unfolding items_from
-      first_barred {k} {p} r =
-          let f : AcceptedBy (sought.Refused k p) (list_for (formals_of (macro_at ms i)) (items_from s b l 0 true at)) (items_from s b l 0 true) (length s) ranges = rw r at found in
+      first_barred {k} r =
+          let f : AcceptedBy (Err k) (list_for (formals_of (macro_at ms i)) (items_from s b l 0 true at)) (items_from s b l 0 true) (length s) ranges = rw r at found in
           first_listed ∙ ap (λ (x : Listed). with_list (insert_asc i []) (formals_of (macro_at ms i)) (macro_text (macro_at ms i)) x) f
 
-      module _ {given next : ℕ} (r : a ≡ sought.List given next) where
+      module _ {given next : ℕ} (r : a ≡ Ok (given, next)) where
         accepts : Accepts (list_for (formals_of (macro_at ms i)) (items_from s b l 0 true at)) (items_from s b l 0 true) (length s) ranges given next
         accepts = rw r at found
 
@@ -327,19 +322,19 @@ module _ (o : Outer) (ms : List Macro) (limit : ℕ) (w s : List ℕ) (at : ℕ)
 
 -- ---- the usage, from what its parts answer: what it names, its record, its list, what was put in
 
-module _ (s w b : List ℕ) (at : ℕ) (records : List (List ℕ)) (macros : ℕ) (small : length b ≤ 65536) {set : List ℕ} (none : set ≡ []) (c : Called)
-    (named : (ms : List Macro) → Holds ms b records macros → CalledBy c (find w ms) ms set macros) {i : ℕ} (e : c ≡ called.Macro i) {q : Record}
-    (row : RecordIs (get_or records i blank_record) q) (l ranges : List (List ℕ)) (a : Sought)
+module _ (s w b : List ℕ) (at : ℕ) (records : List (List ℕ)) (macros : ℕ) (small : length b ≤ 65536) {set : List ℕ} (none : set ≡ []) (c : Result ℕ ℕ)
+    (named : (ms : List Macro) → Holds ms b records macros → CalledBy c (find w ms) ms set macros) {i : ℕ} (e : c ≡ Ok i) {q : Record}
+    (row : RecordIs (get_or records i blank_record) q) (l ranges : List (List ℕ)) (a : Result (ℕ × ℕ) Fault)
     (found : (fs : List Parameter) (t : List ℕ) → MacroIn b q fs t → AcceptedBy a (list_for fs (items_from s b l 0 true at)) (items_from s b l 0 true) (length s) ranges) where
   held : (ms : List Macro) → Holds ms b records macros → MacroIn b q (formals_of (macro_at ms i)) (macro_text (macro_at ms i))
   held ms h = macro_in h small i (named_small ms w s at none macros c (named ms h) e) row
 
-  pub usage_barred : (o : Outer) (ms : List Macro) → Holds ms b records macros → (limit : ℕ) (text map : List ℕ) (z : Stand) {k p : ℕ} {r : Expanded} → a ≡ sought.Refused k p → r ≡ stopped_at k p 0 z
+  pub usage_barred : (o : Outer) (ms : List Macro) → Holds ms b records macros → (limit : ℕ) (text map : List ℕ) (z : Stand) {k : Fault} {r : Expanded} → a ≡ Err k → r ≡ stopped_at k.number k.place 0 z
       → Expands o ms limit w s at text text map map z r
   usage_barred o ms h limit text map z f x =
       expands_refused o ms limit w s at text map z (first_barred ms w s at none macros c (named ms h) e b l ranges a (found _ _ (held ms h)) f) x
 
-  module _ {given next : ℕ} (listed_at : a ≡ sought.List given next) where
+  module _ {given next : ℕ} (listed_at : a ≡ Ok (given, next)) where
     module _ (ms : List Macro) (h : Holds ms b records macros) where
       list_of : Accepts (list_for (formals_of (macro_at ms i)) (items_from s b l 0 true at)) (items_from s b l 0 true) (length s) ranges given next
       list_of = accepts ms w s at none macros c (named ms h) e b l ranges a (found _ _ (held ms h)) listed_at

@@ -7,18 +7,17 @@ use mathlib.Core.List.{List, [], ◌∷◌, ◌++◌}
 use mathlib.Core.Path.{◌≡◌, refl, sym, ap, subst, ◌∙◌}
 use native.Mathlib.Omega.{arith}
 use lib.Dec.{eqb, ltb}
-use lib.ListN.{length, take, drop, length-take, length-drop}
-use lib.Seq.{take_all, take-add, drop_at, length-take-le}
+use lib.ListN.{length, length-take, length-drop}
+use lib.Seq.{take_all}
 use borrow.Author.Tests.{lt-ltb, ne_eqb, eqb-true, eqb-false}
 use Rattle.text.specs.Bytes.{part}
 use Rattle.lex.specs.Tokens.{String, Name, Escaped, Quote, EscapedQuote, Joiner, Grave, Byte}
 use Rattle.lex.proofs.Tests.{by_test, true_false}
 use Rattle.names.specs.Names.{FileWord, directive_of}
 use Rattle.storing.specs.Stored.{joined_from}
-use Rattle.storing.specs.Writing.{Added, AddedBy}
+use Rattle.storing.specs.Writing.{AddedBy}
 use Rattle.storing.specs.declared.Stored.{Stored}
-use Rattle.storing.specs.declared.Stored.TheVariants.{Upto, Short}
-use Rattle.storing.proofs.Adding.{added_past, added_then}
+use Rattle.storing.specs.declared.Stored.TheVariants.{Short}
 use Rattle.storing.proofs.Joining.{joined_length}
 use Rattle.pending.specs.declared.Pend.{Pend}
 use Rattle.pending.specs.Pending.{View, calls, bars, plain, is_blank, byte_view, grave_view, kind_view, is_call, view}
@@ -31,50 +30,12 @@ use Rattle.expand.specs.Expanding.{Outer, spelled, writes}
 part_whole : (w : List ℕ) → part w 0 (length w) ≡ w
 part_whole w = take_all (length w - 0) w (omega arith)
 
-added_part : (o o' : List ℕ) (m : ℕ) (ys : List ℕ) → 1 ≤ length o → Added o o' 0 1 m ys → part o' 1 m ≡ ys
-added_part o o' m ys l a =
-    let q : m ≡ 1 + (m - 1) = omega (arith, a.count) in
-    let k : 1 ≤ length o' = omega (arith, a.same_length) in
-    sym (drop_at (take 1 o') (take (m - 1) (drop 1 o')) 1 (length-take-le 1 o' k))
-    ∙ ap (λ (x : List ℕ). drop 1 x) (sym (take-add 1 (m - 1) o') ∙ sym (ap (λ (n : ℕ). take n o') q) ∙ a.bytes)
-    ∙ drop_at (take 1 o) ys 1 (length-take-le 1 o l)
-
--- w, joined or as it is, is added behind the first byte of o, which has room for it
+-- w, joined, is added behind the first byte of o, which has room for it
 module _ (o o' w : List ℕ) (long : length w + 3 ≤ length o) (r : Stored) where
-  pub joined_in : AddedBy r o o' 0 1 (joined_from false (part w 0 (length w))) → {m : ℕ} → r ≡ Upto m → part o' 1 m ≡ joined_from false w
-  joined_in a {m} e =
-      let d : Added o o' 0 1 m (joined_from false w) = subst (λ (x : Stored). AddedBy x o o' 0 1 (joined_from false w)) e (rw part_whole at a) in
-      added_part o o' m (joined_from false w) (omega arith) d
-
   pub joined_fits : {A : Type 0} → AddedBy r o o' 0 1 (joined_from false (part w 0 (length w))) → r ≡ Short → A
   joined_fits a e =
       let d : length o < 1 + length (joined_from false w) = subst (λ (x : Stored). AddedBy x o o' 0 1 (joined_from false w)) e (rw part_whole at a) in
       absurd (omega (arith, joined_length false w))
-
-  pub bytes_fit : {A : Type 0} → AddedBy r o o' 0 1 (part w 0 (length w)) → r ≡ Short → A
-  bytes_fit a e =
-      let d : length o < 1 + length w = subst (λ (x : Stored). AddedBy x o o' 0 1 w) e (rw part_whole at a) in
-      absurd (omega arith)
-
-  module _ (a : AddedBy r o o' 0 1 (part w 0 (length w))) {m : ℕ} (e : r ≡ Upto m) where
-    bytes_added : Added o o' 0 1 m w
-    bytes_added = subst (λ (x : Stored). AddedBy x o o' 0 1 w) e (rw part_whole at a)
-
-    -- a byte can be added behind them
-    pub space_next : (0 ≤ m) × (m ≤ length o')
-    space_next = added_past bytes_added (omega arith)
-
-    module _ (o'' : List ℕ) (t : Stored) (b : AddedBy t o' o'' 0 m (32 ∷ [])) where
-      pub space_in : {k : ℕ} → t ≡ Upto k → part o'' 1 k ≡ w ++ (32 ∷ [])
-      space_in {k} f =
-          let d : Added o' o'' 0 m k (32 ∷ []) = subst (λ (x : Stored). AddedBy x o' o'' 0 m (32 ∷ [])) f b in
-          added_part o o'' k (w ++ (32 ∷ [])) (omega arith) (added_then bytes_added (omega arith) (32 ∷ []) o'' d)
-
-      pub space_fits : {A : Type 0} → t ≡ Short → A
-      space_fits f =
-          let d : length o' < m + 1 = subst (λ (x : Stored). AddedBy x o' o'' 0 m (32 ∷ [])) f b in
-          let g : m ≡ 1 + length w = bytes_added.count in
-          absurd (omega (arith, bytes_added.same_length))
 
 -- ---- a token's bytes as they stand
 

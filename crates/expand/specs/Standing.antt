@@ -1,6 +1,6 @@
 -- Where an expansion stands, and how it ends from there.
 -- Assumes nothing.
-use Rattle.std.specs.Prelude.{ℕ, max, ◌+◌, ◌-◌, ◌*◌, ◌<◌, ◌≤◌, true, false, ◌≡◌, List, [], ◌∷◌, ◌++◌, length, Result, Ok}
+use Rattle.std.specs.Prelude.{ℕ, max, ◌+◌, ◌-◌, ◌*◌, ◌<◌, ◌≤◌, false, ◌≡◌, List, ◌++◌, length, Result, Ok, Err}
 use Rattle.std.proofs.lemmas.List.Edits.{sets}
 use Rattle.definition.specs.Definitions.{Macro}
 use Rattle.sets.specs.Sets.{elem}
@@ -11,13 +11,10 @@ use Rattle.writing.specs.declared.Spot.{Spot}
 use Rattle.pending.specs.Pending.{Pending}
 use Rattle.pending.specs.References.{stacked}
 use Rattle.arguments.specs.Ranges.{Ranged, Unplaced}
-use Rattle.arguments.specs.declared.Sought.{Sought}
-use Rattle.arguments.specs.declared.Sought.TheVariants as sought
+use Rattle.lex.specs.declared.Fault.{Fault}
 use Rattle.packed.specs.declared.Record.{Record}
 use Rattle.packed.specs.Records.{Small}
-use Rattle.replace.specs.Replacing.{Listed, barred, listed, Got, refused, got, replace_at, replace, deepest}
-use Rattle.expand.specs.declared.usages.Called.{Called}
-use Rattle.expand.specs.declared.usages.Called.TheVariants as called
+use Rattle.replace.specs.Replacing.{Listed, barred, listed, Got, refused, got, replace_at, deepest}
 use Rattle.expand.specs.declared.Stand.{Stand}
 use Rattle.expand.specs.declared.Turn.{Turn}
 use Rattle.expand.specs.declared.Turn.TheVariants as turn
@@ -52,9 +49,9 @@ pub record Spells (s b work text map : List ℕ) (z : Spot) : Type 0 where
   pub spot : Within text map z
 
 -- what a usage names: a macro that is not in its set, or 13 or 16
-abbrev pub CalledBy : Called → Result ℕ ℕ → List Macro → List ℕ → ℕ → Type 0
-CalledBy (called.Macro i) f ms set n = (f ≡ Ok i) × (elem i set ≡ false) × (i < n)
-CalledBy (called.Refused k) f ms set n = (ps : List Pending) → replace_at f ms set ps ≡ refused k 0
+abbrev pub CalledBy : Result ℕ ℕ → Result ℕ ℕ → List Macro → List ℕ → ℕ → Type 0
+CalledBy (Ok i) f ms set n = (f ≡ Ok i) × (elem i set ≡ false) × (i < n)
+CalledBy (Err k) f ms set n = (ps : List Pending) → replace_at f ms set ps ≡ refused k 0
 
 -- the list of a usage, its arguments in ranges
 pub record Accepts (g : Listed) (f : ℕ → List Pending) (last : ℕ) (ranges : List (List ℕ)) (c e : ℕ) : Type 0 where
@@ -65,9 +62,9 @@ pub record Accepts (g : Listed) (f : ℕ → List Pending) (last : ℕ) (ranges 
   pub unplaced : Unplaced ranges c
   pub within : e ≤ last
 
-abbrev pub AcceptedBy : Sought → Listed → (ℕ → List Pending) → ℕ → List (List ℕ) → Type 0
-AcceptedBy (sought.List c e) g f last ranges = Accepts g f last ranges c e
-AcceptedBy (sought.Refused n p) g f last ranges = g ≡ barred n p
+abbrev pub AcceptedBy : Result (ℕ × ℕ) Fault → Listed → (ℕ → List Pending) → ℕ → List (List ℕ) → Type 0
+AcceptedBy (Ok l) g f last ranges = Accepts g f last ranges l.0 l.1
+AcceptedBy (Err e) g f last ranges = g ≡ barred e.number e.place
 
 -- what is lent to put the text of macro i on the first `base` pending tokens
 pub record PutsIn (b : List ℕ) (q : Record) (i : ℕ) (l : List (List ℕ)) (n base : ℕ) (ranges o : List (List ℕ)) : Type 0 where

@@ -10,11 +10,10 @@ ghost use Rattle.definition.specs.Definitions.{Macro};
 ghost use Rattle.store.specs.Buffers.{Holds};
 ghost use Rattle.expand.specs.Standing.{outer, Lends, Within, written_to, Stands, SteppedBy, rest_of, stopped_at, Ends, Expands};
 
-use arguments::Sought;
 use packed::read;
 use pending::{name_of, pend_of};
 use tokens::write_token;
-use usages::{Called, accept, is_usage, put_first, replace_top, resolve};
+use usages::{accept, is_usage, put_first, replace_top, resolve};
 use writing::{Spot, Wrote};
 
 // Where an expansion stands: how many tokens are pending, the replacements and the deepest set so far, where writing stands.
@@ -190,12 +189,12 @@ pub fn expand<'a>(
 {
     let c = resolve(b, records, macros, w, sets::empty());
     match c {
-        Called::Refused(k) => answer(k, 0, 0, z),
-        Called::Macro(i) => {
+        Err(k) => answer(k, 0, 0, z),
+        Ok(i) => {
             let q = read(records, i);
             let f = accept(s, b, q, list, 0, true, at, ranges, stack);
             match f {
-                Sought::List(given, e) => {
+                Ok((given, e)) => {
                     let t = put_first(s, b, q, i, list, ranges, given, limit, out, z);
                     match t {
                         Turn::On(y) => run(
@@ -205,7 +204,7 @@ pub fn expand<'a>(
                         Turn::Ended(k, p) => answer(k, p, e, z),
                     }
                 }
-                Sought::Refused(k, p) => answer(k, p, 0, z),
+                Err(f) => answer(f.number, f.place, 0, z),
             }
         }
     }

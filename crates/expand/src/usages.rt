@@ -15,31 +15,24 @@ ghost use Rattle.replace.specs.Placing.{MacroIn, UsageIn};
 ghost use Rattle.expand.specs.Standing.{Lends, CalledBy, AcceptedBy, PutsIn, replaced_to, PutBy, ReplacedBy};
 
 use crate::{Stand, Turn};
-use arguments::{Sought, seek_list};
-use lex::GRAVE;
+use arguments::seek_list;
+use lex::{Fault, GRAVE};
 use names::directive_of;
 use packed::{Record, read};
-use pending::{Pend, Pushed, name_of};
+use pending::{Pend, name_of};
 use replace::{is_enough, larger, push_text, stack_on};
 use sets::MacroSet;
 use store::find;
 use text::peek;
 
-// A macro by its number, or 13 or 16.
-#[derive(Clone, Copy)]
-pub enum Called {
-    Macro(usize),
-    Refused(usize),
-}
-
-// The macro that a usage of `w` with the set names.
+// The macro that a usage of `w` with the set names, by its number: 13, 16.
 pub(crate) fn resolve(
     b: &[u8],
     records: &[[u32; 4]],
     macros: usize,
     w: &[u8],
     set: MacroSet,
-) -> Called
+) -> Result<usize, usize>
     requires { (macros ≤ 256) × StoredIn b.now records.now macros }
     ensures { (ms : List Macro) → Holds ms b.now records.now macros → CalledBy result (findName w.now ms) ms (members set) macros }
 {
@@ -47,15 +40,15 @@ pub(crate) fn resolve(
     match f {
         Ok(i) => {
             if sets::member(set, i as u64) {
-                return Called::Refused(16);
+                return Err(16);
             }
-            Called::Macro(i)
+            Ok(i)
         }
-        Err(_) => Called::Refused(13),
+        Err(_) => Err(13),
     }
 }
 
-// The list of a usage of the macro `q`, if it has formals: 14, 15.
+// The list of a usage of the macro `q`, if it has formals: how many arguments it has, and where it ends; 14, 15.
 pub fn accept<'a>(
     s: &'a [u8],
     b: &'a [u8],
@@ -66,25 +59,23 @@ pub fn accept<'a>(
     at: usize,
     ranges: &mut [[usize; 4]],
     stack: &mut [u8],
-) -> Sought
+) -> Result<(usize, usize), Fault>
     requires { (length b.now ≤ 65536) × Small q × Listable s.now list.now n (last_of s.now n file) at stack.old }
     ensures { (fs : List Parameter) (t : List ℕ) → MacroIn b.now q fs t → AcceptedBy result (list_for fs (items_from s.now b.now list.now n file at)) (items_from s.now b.now list.now n file) (last_of s.now n file) ranges.new }
 {
     let c = q.start + q.name;
     let count = peek(b, c) as usize;
     if count == 0 {
-        return Sought::List(0, at);
+        return Ok((0, at));
     }
-    let f = seek_list(s, b, list, n, file, at, ranges, stack);
-    match f {
-        Sought::List(given, e) => {
-            if is_enough(b, c + 1, count, given) {
-                return Sought::List(given, e);
-            }
-            Sought::Refused(15, 0)
-        }
-        Sought::Refused(k, p) => Sought::Refused(k, p),
+    let (given, e) = seek_list(s, b, list, n, file, at, ranges, stack)?;
+    if is_enough(b, c + 1, count, given) {
+        return Ok((given, e));
     }
+    Err(Fault {
+        number: 15,
+        place: 0,
+    })
 }
 
 pub fn is_usage<'a>(s: &'a [u8], b: &'a [u8], p: Pend) -> bool
@@ -148,11 +139,11 @@ fn put_in<'a>(
         1024 - base,
     );
     match r {
-        Pushed::Upto(m) => {
+        Some(m) => {
             let d = stack_on(list, base, out, m);
             Turn::On(replaced_to(z, base + m, d))
         }
-        Pushed::Full => Turn::Ended(17, 0),
+        None => Turn::Ended(17, 0),
     }
 }
 
@@ -211,12 +202,12 @@ pub(crate) fn replace_top<'a>(
 {
     let c = resolve(b, records, macros, w, set);
     match c {
-        Called::Refused(k) => Turn::Ended(k, 0),
-        Called::Macro(i) => {
+        Err(k) => Turn::Ended(k, 0),
+        Ok(i) => {
             let q = read(records, i);
             let f = accept(s, b, q, list, n, false, 0, ranges, stack);
             match f {
-                Sought::List(given, e) => {
+                Ok((given, e)) => {
                     put_in(
                         s,
                         b,
@@ -234,7 +225,7 @@ pub(crate) fn replace_top<'a>(
                         z,
                     )
                 }
-                Sought::Refused(k, p) => Turn::Ended(k, p),
+                Err(f) => Turn::Ended(f.number, f.place),
             }
         }
     }

@@ -20,8 +20,8 @@ use Rattle.pending.specs.Pending.{Pending, View, is_call, view}
 use Rattle.pending.specs.References.{pend_of, pending_by, blank, stacked}
 use Rattle.pending.specs.Sources.{items_from}
 use Rattle.pending.proofs.Viewing.{not_usage}
-use Rattle.arguments.specs.declared.Sought.{Sought}
-use Rattle.arguments.specs.declared.Sought.TheVariants as sought
+use Rattle.std.proofs.Common.{Result, Ok, Err}
+use Rattle.lex.specs.declared.Fault.{Fault}
 use Rattle.replace.specs.Placing.{MacroIn}
 use Rattle.replace.specs.Replacing.{list_for}
 use Rattle.expand.specs.Standing.{Accepts, AcceptedBy}
@@ -57,21 +57,21 @@ module _ (w : List ℕ) (ps : List Pending) {ms : List Macro} {b : List ℕ} {r 
 
   -- the list of macro i, whose record is q, was sought
   module _ (i : ℕ) (a : f ≡ Ok i) (small : length b ≤ 65536) {q : Record} (k : RecordIs (get_or r i blank_record) q) (g : ℕ → List Pending) (last : ℕ)
-      (ranges : List (List ℕ)) (o : Sought) (s : (fs : List Parameter) (t : List ℕ) → MacroIn b q fs t → AcceptedBy o (list_for fs ps) g last ranges) where
+      (ranges : List (List ℕ)) (o : Result (ℕ × ℕ) Fault) (s : (fs : List Parameter) (t : List ℕ) → MacroIn b q fs t → AcceptedBy o (list_for fs ps) g last ranges) where
     bar_is : usage_fault ms w ps ≡ bar_of (list_for (formals_of (macro_at ms i)) ps)
     bar_is = usage_by (Ok i) a ∙ ap (λ (fs : List Parameter). bar_of (list_for fs ps)) (sym (formals_same (macro_at ms i)))
 
-    sought_by : (v : Sought) → o ≡ v → AcceptedBy v (list_for (formals_of (macro_at ms i)) ps) g last ranges
+    sought_by : (v : Result (ℕ × ℕ) Fault) → o ≡ v → AcceptedBy v (list_for (formals_of (macro_at ms i)) ps) g last ranges
     sought_by v z =
-        subst (λ (x : Sought). AcceptedBy x (list_for (formals_of (macro_at ms i)) ps) g last ranges) z (s _ _ (macro_in h small i (found_below w h e i a) k))
+        subst (λ (x : Result (ℕ × ℕ) Fault). AcceptedBy x (list_for (formals_of (macro_at ms i)) ps) g last ranges) z (s _ _ (macro_in h small i (found_below w h e i a) k))
 
-    pub usage_good : (c j : ℕ) → o ≡ sought.List c j → verdict.Good ≡ verdict_of (usage_fault ms w ps)
-    usage_good c j z =
-        let y : Accepts (list_for (formals_of (macro_at ms i)) ps) g last ranges c j = sought_by (sought.List c j) z in
+    pub usage_good : (l : ℕ × ℕ) → o ≡ Ok l → verdict.Good ≡ verdict_of (usage_fault ms w ps)
+    usage_good l z =
+        let y : Accepts (list_for (formals_of (macro_at ms i)) ps) g last ranges l.0 l.1 = sought_by (Ok l) z in
         sym (ap verdict_of (bar_is ∙ ap bar_of y.shape))
 
-    pub usage_bad : (c j : ℕ) → o ≡ sought.Refused c j → verdict.Bad c ≡ verdict_of (usage_fault ms w ps)
-    usage_bad c j z = sym (ap verdict_of (bar_is ∙ ap bar_of (sought_by (sought.Refused c j) z)))
+    pub usage_bad : (e : Fault) → o ≡ Err e → verdict.Bad e.number ≡ verdict_of (usage_fault ms w ps)
+    usage_bad e z = sym (ap verdict_of (bar_is ∙ ap bar_of (sought_by (Err e) z)))
 
 -- ---- a token
 

@@ -16,7 +16,6 @@ ghost use Rattle.passing.specs.Passing.{or_next, usage_fault, fault_of, text_fau
 ghost use Rattle.pass.specs.Answer.{answer_of, Passes};
 ghost use Rattle.pass.specs.Judging.{verdict_of, Unfolds, Kept, Works};
 
-use arguments::Sought;
 use expand::usages::{accept, is_usage};
 use genuine::check_store;
 use lex::{in_text, marks_after, token_at};
@@ -82,8 +81,8 @@ fn usage_fault(
         Ok(i) => {
             let r = accept(b, b, read(records, i), list, n, false, at, ranges, stack);
             match r {
-                Sought::List(_, _) => Verdict::Good,
-                Sought::Refused(k, _) => Verdict::Bad(k),
+                Ok(_) => Verdict::Good,
+                Err(f) => Verdict::Bad(f.number),
             }
         }
         Err(_) => Verdict::Bad(13),

@@ -8,8 +8,7 @@ use native.Mathlib.Omega.{arith}
 use lib.ListN.{length, take, set, length-append, length-set}
 use lib.Seq.{take-suc-set}
 use Rattle.pending.specs.declared.Pend.{Pend}
-use Rattle.pending.specs.declared.Pushed.{Pushed}
-use Rattle.pending.specs.declared.Pushed.TheVariants as pushed
+use Rattle.std.proofs.Common.{Option, Some, None}
 use Rattle.pending.specs.Pending.{Pending}
 use Rattle.pending.specs.References.{pendings, pending_by, pend_of, numbers_of}
 use Rattle.pending.specs.Adding.{Takes, Adds, AddsBy}
@@ -68,6 +67,6 @@ module _ {s b : List ℕ} {o o1 : List (List ℕ)} {most n k : ℕ} {q1 : List P
   adds_full_behind q2 r h = adds_full_then (q2 ++ r) (adds_full_front k q2 r h)
 
   -- either
-  pub adds_by_then : (w : Pushed) (o2 : List (List ℕ)) (q2 : List Pending) → AddsBy w s b o1 o2 most k q2 → AddsBy w s b o o2 most n (q1 ++ q2)
-  adds_by_then (pushed.Upto m) o2 q2 c = adds_then c
-  adds_by_then pushed.Full o2 q2 c = (adds_full_then q2 c.0, c.1 ∙ a.same_length)
+  pub adds_by_then : (w : Option ℕ) (o2 : List (List ℕ)) (q2 : List Pending) → AddsBy w s b o1 o2 most k q2 → AddsBy w s b o o2 most n (q1 ++ q2)
+  adds_by_then (Some m) o2 q2 c = adds_then c
+  adds_by_then None o2 q2 c = (adds_full_then q2 c.0, c.1 ∙ a.same_length)

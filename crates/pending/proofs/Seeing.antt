@@ -8,7 +8,7 @@ use native.Mathlib.Nat.{le_of_suc-le-suc, not-suc-le-zero}
 use native.Mathlib.Numerals.{add-one}
 use native.Mathlib.Omega.{arith}
 use lib.ListN.{length, get_or, drop, drop_of_length-le}
-use Rattle.lex.specs.Tokens.{in_file, token_at, tokens}
+use Rattle.lex.specs.Tokens.{in_file, token_at}
 use Rattle.lex.specs.declared.Mode.{Mode}
 use Rattle.lex.specs.declared.Token.{Token}
 use Rattle.lex.proofs.Progress.{token_ends, token_within}
@@ -91,9 +91,3 @@ module _ (s b : List ℕ) (l : List (List ℕ)) where
       past = omega arith;
       within = omega arith;
     }
-
--- ---- the reference of nine numbers
-
-pub pend_by : (v : List ℕ) (a b c d e : ℕ) → a ≡ get_or v 0 0 → b ≡ get_or v 1 0 → c ≡ get_or v 2 0 → d ≡ get_or v 3 0 → e ≡ get_or v 4 0
-    → ◌≡◌ {A = Pend} (record { kind = a; source = b; start = c; from = d; end = e; set = record { w0 = get_or v 5 0; w1 = get_or v 6 0; w2 = get_or v 7 0; w3 = get_or v 8 0 } }) (pend_of v)
-pend_by v a b c d e p q r s t = cc

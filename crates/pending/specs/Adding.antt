@@ -1,8 +1,6 @@
 -- References added to a lent list behind its first n.
 -- Assumes nothing.
-use Rattle.std.specs.Prelude.{ℕ, ◌+◌, ◌<◌, ◌≤◌, ◌≡◌, List, ◌++◌, length, take}
-use Rattle.pending.specs.declared.Pushed.{Pushed}
-use Rattle.pending.specs.declared.Pushed.TheVariants as pushed
+use Rattle.std.specs.Prelude.{ℕ, ◌+◌, ◌<◌, ◌≤◌, ◌≡◌, List, ◌++◌, length, take, Option, Some, None}
 use Rattle.pending.specs.Pending.{Pending}
 use Rattle.pending.specs.References.{pendings}
 
@@ -19,6 +17,6 @@ pub record Adds (s b : List ℕ) (o o' : List (List ℕ)) (most n m : ℕ) (q : 
   pub tokens : pendings s b (take m o') ≡ pendings s b (take n o) ++ q
 
 -- they were added, or are more than may be taken
-abbrev pub AddsBy : Pushed → List ℕ → List ℕ → List (List ℕ) → List (List ℕ) → ℕ → ℕ → List Pending → Type 0
-AddsBy (pushed.Upto m) s b o o' most n q = Adds s b o o' most n m q
-AddsBy pushed.Full s b o o' most n q = (most < n + length q) × (length o' ≡ length o)
+abbrev pub AddsBy : Option ℕ → List ℕ → List ℕ → List (List ℕ) → List (List ℕ) → ℕ → ℕ → List Pending → Type 0
+AddsBy (Some m) s b o o' most n q = Adds s b o o' most n m q
+AddsBy None s b o o' most n q = (most < n + length q) × (length o' ≡ length o)

@@ -1,6 +1,6 @@
 -- Pending tokens as references into the file and the macro bytes: nine numbers each.
 -- Assumes nothing.
-use Rattle.std.specs.Prelude.{ℕ, zero, suc, Bool, true, false, cond, ◌&&◌, ◌||◌, List, [], ◌∷◌, eqb, leb, get_or}
+use Rattle.std.specs.Prelude.{ℕ, zero, suc, Bool, false, cond, ◌&&◌, ◌||◌, List, [], ◌∷◌, eqb, leb, get_or}
 use Rattle.text.specs.Bytes.{part}
 use Rattle.lex.specs.Tokens.{White, String}
 use Rattle.storing.specs.Stored.{joined_from}

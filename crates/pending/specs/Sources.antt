@@ -1,11 +1,8 @@
 -- Where the tokens of an argument list are sought: "in that same list (in the file, for the first usage)". A position is an
 -- offset in the file, or how many tokens of the pending list are passed.
 -- Assumes nothing.
-use Rattle.std.specs.Prelude.{ℕ, ◌<◌, ◌≤◌, Bool, cond, ◌≡◌, List, [], ◌∷◌, length, drop}
-use Rattle.sets.specs.Sets.{members}
+use Rattle.std.specs.Prelude.{ℕ, ◌<◌, ◌≤◌, Bool, cond, ◌≡◌, List, [], ◌∷◌, length, drop, Option, Some, None}
 use Rattle.pending.specs.declared.Item.{Item}
-use Rattle.pending.specs.declared.Seen.{Seen}
-use Rattle.pending.specs.declared.Seen.TheVariants as seen
 use Rattle.pending.specs.Pending.{Pending, file_from}
 use Rattle.pending.specs.References.{pending_by, stacked}
 
@@ -29,9 +26,9 @@ pub record ItemIs (f : ℕ → List Pending) (last i : ℕ) (p : Pending) (next 
   pub past : i < next
   pub within : next ≤ last
 
-abbrev pub SeenBy : Seen → List ℕ → List ℕ → (ℕ → List Pending) → ℕ → ℕ → Type 0
-SeenBy (seen.Token t) s b f last i = ItemIs f last i (item_of s b t) t.next
-SeenBy seen.End s b f last i = f i ≡ []
+abbrev pub SeenBy : Option Item → List ℕ → List ℕ → (ℕ → List Pending) → ℕ → ℕ → Type 0
+SeenBy (Some t) s b f last i = ItemIs f last i (item_of s b t) t.next
+SeenBy None s b f last i = f i ≡ []
 
 -- ps are the tokens from position i to before position e
 pub data Spans (f : ℕ → List Pending) : ℕ → ℕ → List Pending → Type 0 where

@@ -43,41 +43,16 @@ pub struct Item {
     pub next: usize,
 }
 
-#[derive(Clone, Copy)]
-pub enum Seen {
-    Token(Item),
-    End,
-}
-
-// How far a list of references is filled, or that there are too many.
-#[derive(Clone, Copy)]
-pub enum Pushed {
-    Upto(usize),
-    Full,
-}
-
-fn to_usize(x: u64) -> usize
-    ensures { result ≡ x }
-{
-    x as usize
-}
-
-fn to_u64(x: usize) -> u64
-    ensures { result ≡ x }
-{
-    x as u64
-}
-
 // The reference of nine numbers.
 pub fn pend_of(v: [u64; 9]) -> Pend
     ensures { result ≡ pend_of v }
 {
     Pend {
-        kind: to_usize(v[0]),
-        source: to_usize(v[1]),
-        start: to_usize(v[2]),
-        from: to_usize(v[3]),
-        end: to_usize(v[4]),
+        kind: v[0] as usize,
+        source: v[1] as usize,
+        start: v[2] as usize,
+        from: v[3] as usize,
+        end: v[4] as usize,
         set: MacroSet {
             w0: v[5],
             w1: v[6],
@@ -92,11 +67,11 @@ pub fn numbers_of(p: Pend) -> [u64; 9]
 {
     let q = p.set;
     [
-        to_u64(p.kind),
-        to_u64(p.source),
-        to_u64(p.start),
-        to_u64(p.from),
-        to_u64(p.end),
+        p.kind as u64,
+        p.source as u64,
+        p.start as u64,
+        p.from as u64,
+        p.end as u64,
         q.w0,
         q.w1,
         q.w2,
@@ -123,6 +98,7 @@ pub fn is_blank(kind: usize) -> bool
 }
 
 // The part from `i` to before `e` of what the source names.
+#[tactic(auto, unfolding(crate::specs::References::part_in))]
 fn part_in<'a>(s: &'a [u8], b: &'a [u8], source: usize, i: usize, e: usize) -> &'a [u8]
     ensures { result.now ≡ part_in s.now b.now source i e }
 {
@@ -136,6 +112,7 @@ fn part_in<'a>(s: &'a [u8], b: &'a [u8], source: usize, i: usize, e: usize) -> &
 }
 
 // A token's bytes as they stand, if they are no space.
+#[tactic(auto, unfolding(crate::specs::References::raw_of))]
 pub fn bytes_at<'a>(s: &'a [u8], b: &'a [u8], p: Pend) -> &'a [u8]
     requires { eqb p.source 2 ≡ false }
     ensures { result.now ≡ raw_of s.now b.now p }
@@ -143,6 +120,7 @@ pub fn bytes_at<'a>(s: &'a [u8], b: &'a [u8], p: Pend) -> &'a [u8]
     part_in(s, b, p.source, p.start, p.end)
 }
 
+#[tactic(auto, unfolding(crate::specs::References::raw_of))]
 pub fn first_byte<'a>(s: &'a [u8], b: &'a [u8], p: Pend) -> u8
     ensures { result ≡ get_or (raw_of s.now b.now p) 0 0 }
 {
@@ -153,6 +131,7 @@ pub fn first_byte<'a>(s: &'a [u8], b: &'a [u8], p: Pend) -> u8
 }
 
 // A token's name, without grave accent and `\`.
+#[tactic(auto, unfolding(crate::specs::References::pending_by))]
 pub fn name_of<'a>(s: &'a [u8], b: &'a [u8], p: Pend) -> &'a [u8]
     ensures { result.now ≡ (pending_by s.now b.now p).name }
 {
@@ -196,15 +175,15 @@ pub fn clean(p: Pend) -> Pend
     p
 }
 
-// The token of the file at `i`.
-fn file_item(s: &[u8], i: usize) -> Seen
+// The token of the file at `i`, if the file does not end there.
+fn file_item(s: &[u8], i: usize) -> Option<Item>
     ensures { (b : List ℕ) (l : List (List ℕ)) (n : ℕ) → SeenBy result s.now b (items_from s.now b l n true) (length s.now) i }
 {
     if s.len() <= i {
-        return Seen::End;
+        return None;
     }
     let t = token_at(s, i, in_file());
-    Seen::Token(Item {
+    Some(Item {
         pend: Pend {
             kind: t.kind,
             source: FILE,
@@ -219,15 +198,15 @@ fn file_item(s: &[u8], i: usize) -> Seen
     })
 }
 
-// The token behind the first `i` of the pending list of the first `n` references.
-fn list_item(list: &[[u64; 9]], n: usize, i: usize) -> Seen
+// The token behind the first `i` of the pending list of the first `n` references, if there is one.
+fn list_item(list: &[[u64; 9]], n: usize, i: usize) -> Option<Item>
     requires { n ≤ length list.now }
     ensures { (s b : List ℕ) → SeenBy result s b (items_from s b list.now n false) n i }
 {
     if n <= i {
-        return Seen::End;
+        return None;
     }
-    Seen::Token(Item {
+    Some(Item {
         pend: pend_of(list[n - i - 1]),
         at: 0,
         bar: 0,
@@ -235,8 +214,8 @@ fn list_item(list: &[[u64; 9]], n: usize, i: usize) -> Seen
     })
 }
 
-// The token at position `i` of the file, or of the pending list of the first `n` references.
-pub fn item_at(s: &[u8], list: &[[u64; 9]], n: usize, file: bool, i: usize) -> Seen
+// The token at position `i` of the file, or of the pending list of the first `n` references, if there is one.
+pub fn item_at(s: &[u8], list: &[[u64; 9]], n: usize, file: bool, i: usize) -> Option<Item>
     requires { n ≤ length list.now }
     ensures { (b : List ℕ) → SeenBy result s.now b (items_from s.now b list.now n file) (last_of s.now n file) i }
 {
@@ -246,14 +225,14 @@ pub fn item_at(s: &[u8], list: &[[u64; 9]], n: usize, file: bool, i: usize) -> S
     list_item(list, n, i)
 }
 
-// Adds a reference behind the first `n` of `out`, if these are fewer than `most`.
-pub fn push(out: &mut [[u64; 9]], most: usize, n: usize, p: Pend) -> Pushed
+// Adds a reference behind the first `n` of `out`, if these are fewer than `most`: how many there are then.
+pub fn push(out: &mut [[u64; 9]], most: usize, n: usize, p: Pend) -> Option<usize>
     requires { Takes out.old most n }
     ensures { (s b : List ℕ) → AddsBy result s b out.old out.new most n (pending_by s b p ∷ []) }
 {
     if most <= n {
-        return Pushed::Full;
+        return None;
     }
     out[n] = numbers_of(p);
-    Pushed::Upto(n + 1)
+    Some(n + 1)
 }

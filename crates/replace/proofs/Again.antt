@@ -8,12 +8,11 @@ use native.Mathlib.Omega.{arith}
 use lib.ListN.{length, take, drop, get_or, length-drop, get_or-append}
 use lib.Seq.{take-suc, get_or-take, get_or-drop, length-take-le}
 use Rattle.pending.specs.declared.Pend.{Pend}
-use Rattle.pending.specs.declared.Pushed.{Pushed}
-use Rattle.pending.specs.declared.Pushed.TheVariants as pushed
+use Rattle.std.proofs.Common.{None}
 use Rattle.pending.specs.Pending.{Pending}
 use Rattle.pending.specs.References.{pending_by, pend_of, pendings}
 use Rattle.pending.specs.Adding.{Takes, Adds, AddsBy}
-use Rattle.pending.proofs.Adding.{pendings_take_length, adds_none, adds_then, adds_takes}
+use Rattle.pending.proofs.Adding.{pendings_take_length, adds_then, adds_takes}
 
 -- the token of reference i
 pendings_at : (s b : List ℕ) (vs : List (List ℕ)) (i : ℕ) (d : Pending) → i < length vs → get_or (pendings s b vs) i d ≡ pending_by s b (pend_of (get_or vs i []))
@@ -43,22 +42,8 @@ pub record Again (o o' : List (List ℕ)) (most n from to i k : ℕ) : Type 0 wh
   pub inside : i - from ≤ to - from
   pub adds : (s b : List ℕ) → Adds s b o o' most n k (between s b o n from i)
 
-pub again_none : {o : List (List ℕ)} {most n : ℕ} (from to : ℕ) → Takes o most n → Again o o most n from to from n
-again_none {o} {most} {n} from to t =
-    let e : from - from ≡ 0 = omega arith in
-    record { same_length = refl; takes = t; begun = omega arith; inside = omega arith; adds = λ s b. rw e (adds_none s b o most n t.filled) }
-
 module _ {o o' : List (List ℕ)} {most n from to i k : ℕ} (p : Again o o' most n from to i k) where
-  -- none is left
-  pub again_all : to ≤ i → (s b : List ℕ) → Adds s b o o' most n k (between s b o n from to)
-  again_all h s b =
-      let e : to - from ≡ i - from = omega (arith, p.begun, p.inside) in
-      rw e (p.adds s b)
-
   module _ (t : Takes o most n) (w : to ≤ n) (h : i < to) where
-    pub again_in : i < length o'
-    again_in = omega (arith, t.filled, t.lent, p.same_length)
-
     -- the reference that is read stands for token i of the first n
     again_token : (s b : List ℕ) (d : Pending) → get_or (pendings s b (take n o)) i d ≡ pending_by s b (pend_of (get_or o' i []))
     again_token s b d =
@@ -82,26 +67,23 @@ module _ {o o' : List (List ℕ)} {most n from to i k : ℕ} (p : Again o o' mos
         ∙ take-suc (drop from P) (i - from) d l
         ∙ ap (λ (x : Pending). between s b o n from i ++ (x ∷ [])) (get_or-drop from P (i - from) d ∙ ap (λ (j : ℕ). get_or P j d) z ∙ again_token s b d)
 
-    module _ {x : Pend} (z : x ≡ pend_of (get_or o' i [])) (r : Pushed) (o2 : List (List ℕ)) (y : (s b : List ℕ) → AddsBy r s b o' o2 most k (pending_by s b x ∷ [])) where
-      pub again_next : {j : ℕ} → r ≡ pushed.Upto j → Again o o2 most n from to (i + 1) j
-      again_next {j} q =
-          let a : (s b : List ℕ) → Adds s b o' o2 most k j (pending_by s b x ∷ []) = λ s b. subst (λ (r : Pushed). AddsBy r s b o' o2 most k (pending_by s b x ∷ [])) q (y s b) in
-          record {
-            same_length = (a [] []).same_length ∙ p.same_length;
-            takes = adds_takes (a [] []) p.takes;
-            begun = omega (arith, p.begun);
-            inside = omega (arith, p.begun);
-            adds = λ s b.
-                subst (λ (ps : List Pending). Adds s b o o2 most n j ps)
-                (ap (λ (u : Pend). between s b o n from i ++ (pending_by s b u ∷ [])) z ∙ sym (again_one s b))
-                (adds_then (p.adds s b) (a s b));
-          }
+    module _ {x : Pend} (z : x ≡ pend_of (get_or o' i [])) {o2 : List (List ℕ)} where
+      pub again_next : {j : ℕ} → ((s b : List ℕ) → Adds s b o' o2 most k j (pending_by s b x ∷ [])) → Again o o2 most n from to (i + 1) j
+      again_next {j} a = record {
+        same_length = (a [] []).same_length ∙ p.same_length;
+        takes = adds_takes (a [] []) p.takes;
+        begun = omega (arith, p.begun);
+        inside = omega (arith, p.begun);
+        adds = λ s b.
+            subst (λ (ps : List Pending). Adds s b o o2 most n j ps)
+            (ap (λ (u : Pend). between s b o n from i ++ (pending_by s b u ∷ [])) z ∙ sym (again_one s b))
+            (adds_then (p.adds s b) (a s b));
+      }
 
-      -- there is no room for it
-      pub again_full : r ≡ pushed.Full → (s b : List ℕ) → AddsBy pushed.Full s b o o2 most n (between s b o n from to)
-      again_full q s b =
-          let a : AddsBy pushed.Full s b o' o2 most k (pending_by s b x ∷ []) = subst (λ (r : Pushed). AddsBy r s b o' o2 most k (pending_by s b x ∷ [])) q (y s b) in
-          let l : n ≤ length o = omega (arith, t.filled, t.lent) in
-          let u = between_length s b o n from i l p.begun (omega arith) in
-          let v = between_length s b o n from to l (omega (arith, p.begun)) w in
-          (omega (arith, a.0, (p.adds s b).count, u, v, p.begun), a.1 ∙ p.same_length)
+    -- there is no room for it
+    pub again_full : (o2 : List (List ℕ)) → (most < k + 1) × (length o2 ≡ length o') → (s b : List ℕ) → AddsBy None s b o o2 most n (between s b o n from to)
+    again_full o2 a s b =
+        let l : n ≤ length o = omega (arith, t.filled, t.lent) in
+        let u = between_length s b o n from i l p.begun (omega arith) in
+        let v = between_length s b o n from to l (omega (arith, p.begun)) w in
+        (omega (arith, a.0, (p.adds s b).count, u, v, p.begun), a.1 ∙ p.same_length)

@@ -93,9 +93,6 @@ pub record Passed (b : List ℕ) (at count given i k : ℕ) : Type 0 where
       → FormalsAt b i (drop k fs) × (enough fs given ≡ enough (drop k fs) (given - k))
 
 module _ (b : List ℕ) (at count given : ℕ) where
-  pub passed_none : Passed b at count given at 0
-  passed_none = record { moved = omega arith; goes = λ fs h e. (h, let q : given - 0 ≡ given = omega arith in rw q) }
-
   pub too_many : count < given → (fs : List Parameter) → FormalsAt b at fs → count ≡ length fs → false ≡ enough fs given
   too_many l fs h e = sym (enough_many fs given (omega arith))
 
@@ -148,9 +145,6 @@ abbrev pub Answers : List ℕ → List ℕ → ℕ → ℕ → Which → Type 0
 Answers b w at count r =
     (r.number ≤ count) × (r.at ≤ 17179869184)
     × ((fs : List Parameter) → FormalsAt b at fs → count ≡ length fs → WhichIs b fs w r)
-
-pub sought_none : (b w : List ℕ) (at count : ℕ) → Sought b w at count at 0
-sought_none b w at count = record { moved = omega arith; few = omega arith; goes = λ fs h e. (h, omega arith) }
 
 module _ {b w : List ℕ} {at count i k : ℕ} (p : Sought b w at count i k) where
   pub sought_out : count ≤ 255 → at ≤ 8589934592 → count ≤ k → Answers b w at count (record { number = count; at = i })

@@ -10,19 +10,16 @@ use lib.ListN.{length}
 use borrow.Author.Tests.{eq-eqb, ne_eqb}
 use Rattle.pending.specs.Pending.{Pending, is_spacing}
 use Rattle.pending.specs.References.{pending_by, cleaned_ref}
-use Rattle.pending.specs.Sources.{items_from, last_of, item_of, SeenBy, Spans}
+use Rattle.pending.specs.Sources.{items_from, last_of, item_of, ItemIs, Spans}
 use Rattle.pending.specs.Adding.{Takes, Adds, AddsBy}
 use Rattle.pending.specs.declared.Item.{Item}
 use Rattle.pending.specs.declared.Pend.{Pend}
-use Rattle.pending.specs.declared.Seen.{Seen}
-use Rattle.pending.specs.declared.Seen.TheVariants as seen
-use Rattle.pending.specs.declared.Pushed.{Pushed}
-use Rattle.pending.specs.declared.Pushed.TheVariants as pushed
+use Rattle.std.proofs.Common.{None}
 use Rattle.pending.proofs.Spanning.{Past, spans_at, spans_cons, items_apart}
 use Rattle.pending.proofs.Adding.{adds_none, adds_then, adds_full_behind}
 use Rattle.pending.proofs.Cleaning.{clean_is}
 use Rattle.replace.specs.Tidying.{cleaned, before_newline, is_backslash, cleaned_all, drop_left}
-use Rattle.replace.proofs.Tidying.{left_spacing, left_stop, cleaned_break, cleaned_more, seen_token, seen_end, spans_there}
+use Rattle.replace.proofs.Tidying.{left_spacing, left_stop, cleaned_break, cleaned_more, spans_there}
 
 -- ---- the reference of a token that is put in place
 
@@ -124,18 +121,19 @@ module _ {s b : List ℕ} {f : ℕ → List Pending} {o o1 : List (List ℕ)} {m
             list = rw w (list_put z ∙ sym (append_assoc T.added (cleaned p ∷ []) (cleaned_all v.rest)));
           }
 
-      past_full : (o2 : List (List ℕ)) → (eqb k at && is_spacing (cleaned p).kind) ≡ false → (most < k + 1) × (length o2 ≡ length o1) → AddsBy pushed.Full s b o o2 most at (drop_left (cleaned_all ps))
+      past_full : (o2 : List (List ℕ)) → (eqb k at && is_spacing (cleaned p).kind) ≡ false → (most < k + 1) × (length o2 ≡ length o1) → AddsBy None s b o o2 most at (drop_left (cleaned_all ps))
       past_full o2 z a = rw (list_put z) (adds_full_behind T.adds (cleaned p ∷ []) (cleaned_all v.rest) a.0, a.1 ∙ T.adds.same_length)
 
 -- ---- by what the code sees
 
-module _ (s b : List ℕ) (l : List (List ℕ)) (n : ℕ) (file : Bool) {o o1 : List (List ℕ)} {most at to i k : ℕ} {ps : List Pending} (T : Keeping s b (items_from s b l n file) o o1 most at to i k ps) (r : Seen) (sees : SeenBy r s b (items_from s b l n file) (last_of s n file) i) (h : i < to) (m : to ≤ last_of s n file) where
-  pub keep_none : r ≡ seen.End → ⊥
-  keep_none q = spans_there T.ahead h (seen_end s b (items_from s b l n file) (last_of s n file) i r sees q)
+module _ (s b : List ℕ) (l : List (List ℕ)) (n : ℕ) (file : Bool) {o o1 : List (List ℕ)} {most at to i k : ℕ} {ps : List Pending} (T : Keeping s b (items_from s b l n file) o o1 most at to i k ps) (h : i < to) (m : to ≤ last_of s n file) where
+  pub keep_none : items_from s b l n file i ≡ [] → ⊥
+  keep_none q = spans_there T.ahead h q
 
-  module _ (t : Item) (q : r ≡ seen.Token t) (y : Bool) (breaks : (qs : List Pending) → Spans (items_from s b l n file) t.next to qs → to ≤ last_of s n file → y ≡ (is_backslash (item_of s b t) && before_newline qs)) where
+  module _ (t : Item) (item : ItemIs (items_from s b l n file) (last_of s n file) i (item_of s b t) t.next) (y : Bool)
+      (breaks : (qs : List Pending) → Spans (items_from s b l n file) t.next to qs → to ≤ last_of s n file → y ≡ (is_backslash (item_of s b t) && before_newline qs)) where
     past : Past (items_from s b l n file) t.next to (item_of s b t) T.rest
-    past = spans_cons (items_apart s b l n file) (seen_token s b (items_from s b l n file) (last_of s n file) i r t sees q) T.ahead h m
+    past = spans_cons (items_apart s b l n file) item T.ahead h m
 
     breaks_so : (z : Bool) → y ≡ z → (is_backslash (item_of s b t) && before_newline past.rest) ≡ z
     breaks_so z e = sym (breaks past.rest past.spans m) ∙ e
@@ -150,24 +148,14 @@ module _ (s b : List ℕ) (l : List (List ℕ)) (n : ℕ) (file : Bool) {o o1 : 
       pub keep_spacing : (eqb k at && x) ≡ true → Keeping s b (items_from s b l n file) o o1 most at to t.next k ps
       keep_spacing z = past_spacing T past (breaks_so false u) (so true z)
 
-      module _ (z : (eqb k at && x) ≡ false) (g : Pushed) (o2 : List (List ℕ)) (pushes : AddsBy g s b o1 o2 most k (pending_by s b w ∷ [])) where
-        put : AddsBy g s b o1 o2 most k (cleaned (item_of s b t) ∷ [])
-        put = rw (put_is s b t w e) at pushes
+      module _ (z : (eqb k at && x) ≡ false) (o2 : List (List ℕ)) where
+        pub keep_put : {j : ℕ} → Adds s b o1 o2 most k j (pending_by s b w ∷ []) → Keeping s b (items_from s b l n file) o o2 most at to t.next j ps
+        keep_put {j} a = let c : Adds s b o1 o2 most k j (cleaned (item_of s b t) ∷ []) = rw (put_is s b t w e) at a in past_put T past (breaks_so false u) (so false z) c
 
-        pub keep_put : (j : ℕ) → g ≡ pushed.Upto j → Keeping s b (items_from s b l n file) o o2 most at to t.next j ps
-        keep_put j f = let a : Adds s b o1 o2 most k j (cleaned (item_of s b t) ∷ []) = rw f at put in past_put T past (breaks_so false u) (so false z) a
-
-        pub keep_full : g ≡ pushed.Full → AddsBy pushed.Full s b o o2 most at (drop_left (cleaned_all ps))
-        keep_full f = let a : (most < k + 1) × (length o2 ≡ length o1) = rw f at put in past_full T past (breaks_so false u) o2 (so false z) a
+        pub keep_full : (most < k + 1) × (length o2 ≡ length o1) → AddsBy None s b o o2 most at (drop_left (cleaned_all ps))
+        keep_full a = past_full T past (breaks_so false u) o2 (so false z) a
 
 -- ---- the room that is left
 
-pub room_takes : {o o1 : List (List ℕ)} {most at k : ℕ} → Takes o most at → Room o o1 most k → Takes o1 most k
-room_takes t a = record { filled = a.fits; lent = rw a.same_length t.lent }
-
-module _ (s b : List ℕ) {o o1 : List (List ℕ)} {most k : ℕ} (a : Room o o1 most k) (g : Pushed) (o2 : List (List ℕ)) (x : Pending) (pushes : AddsBy g s b o1 o2 most k (x ∷ [])) where
-  pub room_put : (j : ℕ) → g ≡ pushed.Upto j → Room o o2 most j
-  room_put j f = let d : Adds s b o1 o2 most k j (x ∷ []) = rw f at pushes in record { same_length = d.same_length ∙ a.same_length; fits = d.fits }
-
-  pub room_full : g ≡ pushed.Full → length o2 ≡ length o
-  room_full f = let d : (most < k + 1) × (length o2 ≡ length o1) = rw f at pushes in d.1 ∙ a.same_length
+pub room_put : {s b : List ℕ} {o o1 o2 : List (List ℕ)} {most k j : ℕ} {q : List Pending} → Room o o1 most k → Adds s b o1 o2 most k j q → Room o o2 most j
+room_put a d = record { same_length = d.same_length ∙ a.same_length; fits = d.fits }

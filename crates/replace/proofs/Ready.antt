@@ -9,13 +9,12 @@ use lib.Dec.{eqb}
 use borrow.Author.Tests.{eqb-true, eqb-false}
 use lib.ListN.{length, take, drop, get_or, set, length-append, length-drop, length-set}
 use lib.Seq.{take_all, drop_at, take-append-le, drop-append-le, get_or-set_same, get_or-set_other}
-use Rattle.pending.specs.declared.Pushed.{Pushed}
-use Rattle.pending.specs.declared.Pushed.TheVariants as pushed
+use Rattle.std.proofs.Common.{Option, Some, None}
 use Rattle.pending.specs.Pending.{Pending}
 use Rattle.pending.specs.References.{pendings}
 use Rattle.pending.specs.Sources.{Spans}
 use Rattle.pending.specs.Adding.{Adds, AddsBy}
-use Rattle.arguments.specs.Ranges.{Ranged, range_from, range_to, placed_from, placed_to, Unplaced}
+use Rattle.arguments.specs.Ranges.{range_from, range_to, placed_from, placed_to}
 use Rattle.replace.specs.Tidying.{tidy, tidy_all}
 use Rattle.replace.specs.Placing.{PlacedBefore, PlacedIn, Ready, ReadyBy}
 use Rattle.replace.proofs.Values.{any_default, tidied_at, adds_as}
@@ -38,19 +37,15 @@ placed_on ps qs r xs h k l m n =
     )
 
 module _ {f : ℕ → List Pending} {last : ℕ} {r : List (List ℕ)} {xs : List (List Pending)} where
-  -- nothing was put in place yet
-  pub ready_first : {ps : List Pending} {c : ℕ} → Ranged f last r xs → c ≡ length xs → Unplaced r c → Ready f last r xs ps
-  ready_first g e u = record { ranged = g; placed = λ k l m n. absurd (omega (arith, u k (omega arith) m)) }
-
   module _ (s b : List ℕ) (o : List (List ℕ)) (n : ℕ) (h : Ready f last r xs (pendings s b (take n o))) where
     ready_adds : {o' : List (List ℕ)} {most m : ℕ} {q : List Pending} → Adds s b o o' most n m q → Ready f last r xs (pendings s b (take m o'))
     ready_adds {q = q} a =
         record { ranged = h.ranged; placed = subst (λ (ps : List Pending). PlacedIn ps r xs) (sym a.tokens) (placed_on (pendings s b (take n o)) q r xs h.placed) }
 
-    pub ready_on : (w : Pushed) (o' : List (List ℕ)) (most : ℕ) (q : List Pending) → AddsBy w s b o o' most n q → ReadyBy w s b f last o' r xs
-    ready_on w o' most q a m e = ready_adds (subst (λ (w : Pushed). AddsBy w s b o o' most n q) e a)
+    pub ready_on : (w : Option ℕ) (o' : List (List ℕ)) (most : ℕ) (q : List Pending) → AddsBy w s b o o' most n q → ReadyBy w s b f last o' r xs
+    ready_on w o' most q a m e = ready_adds (subst (λ (w : Option ℕ). AddsBy w s b o o' most n q) e a)
 
-    pub ready_here : ReadyBy (pushed.Upto n) s b f last o r xs
+    pub ready_here : ReadyBy (Some n) s b f last o r xs
     ready_here m e = let z : n ≡ m = cc in subst (λ (j : ℕ). Ready f last r xs (pendings s b (take j o))) z h
 
     pub ready_eq : {m : ℕ} → n ≡ m → Ready f last r xs (pendings s b (take m o))
@@ -60,7 +55,7 @@ module _ {f : ℕ → List Pending} {last : ℕ} {r : List (List ℕ)} {xs : Lis
     ready_before l e k i j m = omega (arith, (h.placed k (omega arith) j m).0, pendings_length s b o n l)
 
 -- nothing is said where there was no room
-pub ready_full : {A : Type 0} {m : ℕ} → pushed.Full ≡ pushed.Upto m → A
+pub ready_full : {A : Type 0} {m : ℕ} → None ≡ Some m → A
 ready_full e = let z : ◌≡◌ {A = ℕ} 0 1 = cc in absurd (omega arith)
 
 -- ---- a range as the code reads it
@@ -117,13 +112,12 @@ module _ {f : ℕ → List Pending} {last : ℕ} (r : List (List ℕ)) (xs : Lis
 -- the argument was read and added
 pub given_placed : (s b : List ℕ) (o o' : List (List ℕ)) (most n : ℕ) {f : ℕ → List Pending} {last : ℕ} (r : List (List ℕ)) (xs : List (List Pending)) (k : ℕ)
     → Ready f last r xs (pendings s b (take n o)) → k < length xs → k < length r → n ≤ length o
-    → (w : Pushed) → AddsBy w s b o o' most n (tidy (get_or xs k [])) → (m : ℕ) → w ≡ pushed.Upto m
-    → Adds s b o o' most n m (get_or (tidy_all xs) k []) × ReadyBy (pushed.Upto m) s b f last o' (set r k (range_then r k n m)) xs
-given_placed s b o o' most n {f} {last} r xs k h i j l w a m e =
+    → {m : ℕ} → Adds s b o o' most n m (tidy (get_or xs k []))
+    → Adds s b o o' most n m (get_or (tidy_all xs) k []) × ReadyBy (Some m) s b f last o' (set r k (range_then r k n m)) xs
+given_placed s b o o' most n {f} {last} r xs k h i j l {m} d =
     let q : List Pending = tidy (get_or xs k []) in
-    let d : Adds s b o o' most n m q = subst (λ (w : Pushed). AddsBy w s b o o' most n q) e a in
     let g : Ready f last (set r k (range_then r k n m)) xs (pendings s b (take n o) ++ q) =
     ready_placed r xs (pendings s b (take n o)) k n m q h j (pendings_length s b o n l) d.count refl in (
-      adds_as (pushed.Upto m) s b o o' most n (sym (tidied_at xs k i)) d,
+      adds_as (Some m) s b o o' most n (sym (tidied_at xs k i)) d,
       ready_here s b o' m (subst (λ (ps : List Pending). Ready f last (set r k (range_then r k n m)) xs ps) (sym d.tokens) g),
     )

@@ -2,7 +2,7 @@
 -- Assumes nothing.
 use Prim.Native.Nat.{ℕ, zero, suc, max, ◌+◌, ◌-◌, ◌<◌, ◌≤◌}
 use mathlib.Core.List.{List, [], ◌∷◌, ◌++◌}
-use mathlib.Core.Path.{◌≡◌, refl, sym, ap, ◌∙◌}
+use mathlib.Core.Path.{◌≡◌, refl, ap, ◌∙◌}
 use native.Mathlib.Numerals.{add-one}
 use native.Mathlib.Omega.{arith}
 use lib.ListN.{length, take, drop, get_or, set, length-set, drop_of_length-le}
@@ -11,7 +11,6 @@ use Rattle.sets.specs.Sets.{members}
 use Rattle.pending.specs.Pending.{Pending}
 use Rattle.pending.specs.References.{pending_by, pend_of, pendings, stacked, blank}
 use Rattle.replace.specs.Replacing.{deepest}
-use Rattle.replace.specs.Placing.{Stacks}
 
 -- the first n references alone make the list of n
 pub stacked_set : (s b : List ℕ) (l : List (List ℕ)) (n i : ℕ) (v : List ℕ) → n ≤ i → stacked s b (set l i v) n ≡ stacked s b l n
@@ -31,17 +30,19 @@ pub record Onto (l₀ l : List (List ℕ)) (n : ℕ) (o : List (List ℕ)) (m k 
   pub depth : (s b : List ℕ) → d ≡ deepest (pendings s b (drop k (take m o)))
 
 module _ {l₀ : List (List ℕ)} {n : ℕ} {o : List (List ℕ)} {m : ℕ} where
-  pub onto_none : m ≤ length o → Onto l₀ l₀ n o m m n 0
+  pub onto_none : m ≤ length o → Onto l₀ l₀ n o m (m - 0) (n + 0) 0
   unfolding pendings deepest
   onto_none h =
       let e : drop m (take m o) ≡ [] = drop_of_length-le (take m o) {i = m} (omega (arith, length-take-le m o h)) in
-      record { same_length = refl; count = refl; left = omega arith; tokens = λ s b. rw e; depth = λ s b. rw e }
+      let x : m - 0 ≡ m = omega arith in
+      let y : n + 0 ≡ n = omega arith in
+      rw (x, y) (record { same_length = refl; count = refl; left = omega arith; tokens = λ s b. rw e; depth = λ s b. rw e })
 
-  pub onto_more : {l : List (List ℕ)} {k i d : ℕ} → Onto l₀ l n o m k i d → n + m ≤ length l₀ → m ≤ length o → 0 < k
+  onto_step : {l : List (List ℕ)} {k i d : ℕ} → Onto l₀ l n o m k i d → n + m ≤ length l₀ → m ≤ length o → 0 < k
       → (c e : ℕ) → c ≡ length (members (pend_of (get_or o (k - 1) [])).set) → e ≡ max c d
       → Onto l₀ (set l i (get_or o (k - 1) [])) n o m (k - 1) (i + 1) e
   unfolding pendings deepest stacked pending_by
-  onto_more {l} {k} {i} {d} h f g z c e p q =
+  onto_step {l} {k} {i} {d} h f g z c e p q =
       let v = get_or o (k - 1) [] in
       let w : i < length l = omega (arith, h.same_length, h.count, h.left) in
       let x : k - 1 < length (take m o) = omega (arith, length-take-le m o g, h.left) in
@@ -60,11 +61,11 @@ module _ {l₀ : List (List ℕ)} {n : ℕ} {o : List (List ℕ)} {m : ℕ} wher
         depth = λ s b. rw (a, q, p) (ap (λ (j : ℕ). max (length (members (pend_of v).set)) j) (h.depth s b));
       }
 
-  pub onto_all : {l : List (List ℕ)} {k i d : ℕ} → Onto l₀ l n o m k i d → k ≤ 0 → (s b : List ℕ) → Stacks s b l₀ l n o m d
-  onto_all {l} {k} {i} {d} h z s b =
-      let y : k ≡ 0 = omega arith in
-      let x : i ≡ n + m = omega (arith, h.count) in
-      record {
-        tokens = ap (λ (j : ℕ). stacked s b l j) (sym x) ∙ h.tokens s b ∙ ap (λ (j : ℕ). pendings s b (drop j (take m o)) ++ stacked s b l₀ n) y;
-        depth = h.depth s b ∙ ap (λ (j : ℕ). deepest (pendings s b (drop j (take m o)))) y;
-      }
+  pub onto_more : {l : List (List ℕ)} {i d : ℕ} → Onto l₀ l n o m (m - i) (n + i) d → n + m ≤ length l₀ → m ≤ length o → i < m
+      → (c e : ℕ) → c ≡ length (members (pend_of (get_or o (m - 1 - i) [])).set) → e ≡ max c d
+      → Onto l₀ (set l (n + i) (get_or o (m - 1 - i) [])) n o m (m - (i + 1)) (n + (i + 1)) e
+  onto_more {l} {i} {d} h f g z c e p q =
+      let x : m - 1 - i ≡ m - i - 1 = omega arith in
+      let y : m - (i + 1) ≡ m - i - 1 = omega arith in
+      let v : n + (i + 1) ≡ n + i + 1 = omega arith in
+      rw (x, y, v) (onto_step h f g (omega arith) c e (p ∙ ap (λ (j : ℕ). length (members (pend_of (get_or o j [])).set)) x) q)

@@ -8,7 +8,7 @@ use mathlib.Core.Path.{◌≡◌, refl, sym, ap, subst, ◌∙◌}
 use native.Mathlib.Nat.{not-suc-le-zero}
 use native.Mathlib.Omega.{arith}
 use lib.Dec.{eqb}
-use lib.ListN.{length, take, drop, get_or, length-take, length-drop}
+use lib.ListN.{length, take, drop, get_or}
 use borrow.Author.Tests.{eqb-true}
 use Rattle.text.specs.Bytes.{same, part}
 use Rattle.lex.specs.Tokens.{Name, Escaped, Quote, Grave, Byte, in_text, between, marks_after, name_of, token_at, tokens}
@@ -23,15 +23,14 @@ use Rattle.definition.specs.Definitions.{Parameter, parameter}
 use Rattle.sets.specs.Sets.{members}
 use Rattle.sets.specs.declared.MacroSet.{MacroSet}
 use Rattle.pending.specs.declared.Pend.{Pend}
-use Rattle.pending.specs.declared.Pushed.{Pushed}
-use Rattle.pending.specs.declared.Pushed.TheVariants as pushed
+use Rattle.std.proofs.Common.{Option as Opt}
 use Rattle.pending.specs.Pending.{Pending, View, names, is_blank, kind_view, view, text_token, text_tokens}
 use Rattle.pending.specs.References.{pending_by}
 use Rattle.pending.specs.Adding.{Adds, AddsBy}
-use Rattle.pending.proofs.Adding.{adds_none, adds_then, adds_full_behind}
+use Rattle.pending.proofs.Adding.{adds_then, adds_full_behind}
 use Rattle.replace.specs.declared.Which.{Which}
 use Rattle.replace.specs.Replacing.{or_else, value, instead, image_of, image_in, in_place, text_with}
-use Rattle.replace.specs.Placing.{FormalsAt, formal_index, WhichIs, stored_ref, Images}
+use Rattle.replace.specs.Placing.{FormalsAt, formal_index, WhichIs, stored_ref}
 use Rattle.replace.proofs.Values.{stored_token}
 
 -- ---- what takes the place of a name
@@ -149,7 +148,7 @@ at_formal b fs u v i l g =
 
 module _ (s b : List ℕ) (o o' : List (List ℕ)) (most at : ℕ) where
   -- a formal's name gives way to its value
-  pub image_value : (r : Pushed) (set : List ℕ) (w : List ℕ) (t : Token) (fs : List Parameter) (xs : List (List Pending)) (u : List ℕ) (v : Which)
+  pub image_value : (r : Opt ℕ) (set : List ℕ) (w : List ℕ) (t : Token) (fs : List Parameter) (xs : List (List Pending)) (u : List ℕ) (v : Which)
       → (eqb t.kind Name || eqb t.kind Escaped) ≡ true → u ≡ name_of w t → WhichIs b fs u v → v.number < length fs
       → ((f : List ℕ) (d : Option (List ℕ)) (rest : List Parameter) → FormalsAt b v.at (parameter f d ∷ rest)
       → AddsBy r s b o o' most at (or_else set d (get_or xs v.number [])))
@@ -162,7 +161,7 @@ module _ (s b : List ℕ) (o o' : List (List ℕ)) (most at : ℕ) where
       (g q.its_name q.its_default q.others (subst (λ (ps : List Parameter). FormalsAt b v.at ps) q.shape (i.there l)))
 
   -- a token that stays is added by its reference
-  pub image_kept : (r : Pushed) (set : MacroSet) (w : List ℕ) (t : Token) (fs : List Parameter) (xs : List (List Pending)) (base : ℕ) (p : Pend)
+  pub image_kept : (r : Opt ℕ) (set : MacroSet) (w : List ℕ) (t : Token) (fs : List Parameter) (xs : List (List Pending)) (base : ℕ) (p : Pend)
       → w ≡ part b base (base + length w) → t.at ≤ t.end → t.from ≤ t.end → t.end ≤ length w → p ≡ stored_ref base t set
       → image_in (members set) fs xs (text_token w (members set) t) ≡ text_token w (members set) t ∷ []
       → AddsBy r s b o o' most at (pending_by s b p ∷ [])
@@ -170,17 +169,6 @@ module _ (s b : List ℕ) (o o' : List (List ℕ)) (most at : ℕ) where
   image_kept r set w t fs xs base p e h f g q m a =
       let z : pending_by s b p ≡ text_token w (members set) t = ap (λ (y : Pend). pending_by s b y) q ∙ stored_token s b w base t set e h f g in
       subst (λ (y : List Pending). AddsBy r s b o o' most at y) (ap (λ (y : Pending). y ∷ []) z ∙ sym m) a
-
--- the numbers of a token of the text are small
-part_short : (b w : List ℕ) (base : ℕ) → w ≡ part b base (base + length w) → length w ≤ length b
-part_short b w base e =
-    let l : length w ≡ length (part b base (base + length w)) = ap (λ (v : List ℕ). length v) e in
-    omega (arith, length-take (base + length w - base) (drop base b), length-drop base b)
-
-pub stored_fits : {l : List (List ℕ)} {n : ℕ} {r : List (List ℕ)} {given : ℕ} {b : List ℕ} {first count base : ℕ} {w : List ℕ} {t : Token} {o : List (List ℕ)} {most at : ℕ}
-    → Images l n r given b first count base w t o most at
-    → (base ≤ 17179869184) × (t.at ≤ 17179869184) × (t.from ≤ 17179869184) × (t.end ≤ 17179869184)
-stored_fits {b = b} {base = base} {w = w} h = let z : length w ≤ length b = part_short b w base h.part_is in omega arith
 
 -- ---- one token after the other
 
@@ -220,9 +208,6 @@ pub record Placed (s b w set : List ℕ) (fs : List Parameter) (xs : List (List 
       ≡ before ++ in_place (value set fs xs) (text_tokens w set (tokens (between in_text marks) w i))
 
 module _ {s b w set : List ℕ} {fs : List Parameter} {xs : List (List Pending)} {o : List (List ℕ)} {most : ℕ} where
-  pub placed_none : Placed s b w set fs xs o o most 0 0 false
-  placed_none = record { before = []; adds = adds_none s b o most 0 (omega arith); rest = refl }
-
   module _ {o₁ : List (List ℕ)} {k i : ℕ} {marks : Bool} (p : Placed s b w set fs xs o o₁ most k i marks) where
     step : (t : Token) → i < length w → t ≡ token_at (between in_text marks) w i
         → in_place (value set fs xs) (text_tokens w set (tokens in_text w 0))
@@ -230,31 +215,30 @@ module _ {s b w set : List ℕ} {fs : List Parameter} {xs : List (List Pending)}
     step t h e = p.rest ∙ ap (λ (y : List Pending). p.before ++ y) (text_next (value set fs xs) w set marks i t h e)
 
     -- the next token's place is taken
-    pub placed_more : (m : Mode) (t : Token) (r : Pushed) (o₂ : List (List ℕ)) (n : ℕ) (marks' : Bool) → i < length w
-        → m ≡ between in_text marks → t ≡ token_at m w i → r ≡ pushed.Upto n
-        → AddsBy r s b o₁ o₂ most k (image_in set fs xs (text_token w set t)) → marks' ≡ marks_after marks t
+    pub placed_more : (m : Mode) (t : Token) (o₂ : List (List ℕ)) (n : ℕ) (marks' : Bool) → i < length w
+        → m ≡ between in_text marks → t ≡ token_at m w i
+        → Adds s b o₁ o₂ most k n (image_in set fs xs (text_token w set t)) → marks' ≡ marks_after marks t
         → Placed s b w set fs xs o o₂ most n t.end marks'
-    placed_more m t r o₂ n marks' h f g u a z =
+    placed_more m t o₂ n marks' h f g a z =
         let e : t ≡ token_at (between in_text marks) w i = g ∙ ap (λ (x : Mode). token_at x w i) f in
         let j = image_in set fs xs (text_token w set t) in
         record {
           before = p.before ++ j;
-          adds = adds_then p.adds (subst (λ (x : Pushed). AddsBy x s b o₁ o₂ most k j) u a);
+          adds = adds_then p.adds a;
           rest = rw z (step t h e ∙ sym (append_assoc p.before j (in_place (value set fs xs) (text_tokens w set (tokens (between in_text (marks_after marks t)) w t.end)))));
         }
 
     -- there is no room for it
-    pub placed_full : (m : Mode) (t : Token) (r : Pushed) (o₂ : List (List ℕ)) (v : List ℕ) → i < length w
-        → m ≡ between in_text marks → t ≡ token_at m w i → r ≡ pushed.Full
-        → AddsBy r s b o₁ o₂ most k (image_in set fs xs (text_token w set t)) → w ≡ v
+    pub placed_full : (m : Mode) (t : Token) (o₂ : List (List ℕ)) (v : List ℕ) → i < length w
+        → m ≡ between in_text marks → t ≡ token_at m w i
+        → (most < k + length (image_in set fs xs (text_token w set t))) × (length o₂ ≡ length o₁) → w ≡ v
         → (most < 0 + length (text_with set fs xs v)) × (length o₂ ≡ length o)
-    placed_full m t r o₂ v h f g u a q =
+    placed_full m t o₂ v h f g a q =
         let e : t ≡ token_at (between in_text marks) w i = g ∙ ap (λ (x : Mode). token_at x w i) f in
-        let j = image_in set fs xs (text_token w set t) in
-        let l = subst (λ (x : Pushed). AddsBy x s b o₁ o₂ most k j) u a in (
+        let j = image_in set fs xs (text_token w set t) in (
           subst (λ (y : List ℕ). most < 0 + length (text_with set fs xs y)) q
-              (rw (step t h e) (adds_full_behind p.adds j (in_place (value set fs xs) (text_tokens w set (tokens (between in_text (marks_after marks t)) w t.end))) l.0)),
-          l.1 ∙ p.adds.same_length,
+              (rw (step t h e) (adds_full_behind p.adds j (in_place (value set fs xs) (text_tokens w set (tokens (between in_text (marks_after marks t)) w t.end))) a.0)),
+          a.1 ∙ p.adds.same_length,
         )
 
     -- no token is left

@@ -1,6 +1,6 @@
 -- Spacing dropped at both ends, and a `\` just before a newline.
 -- Assumes nothing.
-use Prim.Native.Nat.{ℕ, ◌-◌, ◌<◌, ◌≤◌}
+use Prim.Native.Nat.{ℕ, ◌<◌, ◌≤◌}
 use mathlib.Core.Bool.{Bool, true, false, cond, ◌&&◌, and-false, or-true, or-false}
 use mathlib.Core.List.{List, [], ◌∷◌, ◌++◌}
 use mathlib.Core.Path.{◌≡◌, refl, sym, ap, ◌∙◌}
@@ -11,11 +11,9 @@ use borrow.Author.Tests.{eq-eqb, ne_eqb, eqb-true}
 use Rattle.lex.specs.Tokens.{Newline, String, Byte}
 use Rattle.pending.specs.Pending.{Pending, is_spacing, is_comment, is_blank}
 use Rattle.pending.specs.References.{raw_of, pending_by}
-use Rattle.pending.specs.Sources.{items_from, last_of, item_of, ItemIs, SeenBy, Spans}
+use Rattle.pending.specs.Sources.{items_from, last_of, item_of, ItemIs, Spans}
 use Rattle.pending.specs.Sources.Spans.{none, more}
 use Rattle.pending.specs.declared.Item.{Item}
-use Rattle.pending.specs.declared.Seen.{Seen}
-use Rattle.pending.specs.declared.Seen.TheVariants as seen
 use Rattle.pending.proofs.Spanning.{spans_at, spans_cons, items_apart}
 use Rattle.pending.proofs.Viewing.{first_raw}
 use Rattle.replace.specs.Tidying.{cleaned, before_newline, is_backslash, cleaned_all, drop_left, keep_last, drop_right}
@@ -96,17 +94,6 @@ module _ {f : ℕ → List Pending} where
       let z : ◌≡◌ {A = ℕ} 0 1 = cc in
       omega arith
 
--- what is told of a token that was seen
-pub seen_token : (s b : List ℕ) (f : ℕ → List Pending) (last i : ℕ) (r : Seen) (t : Item) → SeenBy r s b f last i → r ≡ seen.Token t → ItemIs f last i (item_of s b t) t.next
-seen_token s b f last i r t h e = rw e at h
-
-pub seen_end : (s b : List ℕ) (f : ℕ → List Pending) (last i : ℕ) (r : Seen) → SeenBy r s b f last i → r ≡ seen.End → f i ≡ []
-seen_end s b f last i r h e = rw e at h
-
--- each token is past the one before it
-pub seen_less : (s b : List ℕ) (f : ℕ → List Pending) (last i : ℕ) (r : Seen) (t : Item) → SeenBy r s b f last i → r ≡ seen.Token t → last - t.next < last - i
-seen_less s b f last i r t a q = let z = seen_token s b f last i r t a q in omega arith
-
 -- ---- whether a token is a `\` just before a newline
 
 module _ (s b : List ℕ) (t : Item) (z : Bool) where
@@ -130,13 +117,11 @@ module _ (s b : List ℕ) (l : List (List ℕ)) (n : ℕ) (file : Bool) (t : Ite
   pub break_out : to ≤ t.next → false ≡ (is_backslash (item_of s b t) && before_newline ps)
   break_out h = rw ((spans_at sp h).1, and-false)
 
-  pub break_end : (r : Seen) → SeenBy r s b (items_from s b l n file) (last_of s n file) t.next → r ≡ seen.End → t.next < to → ⊥
-  break_end r a e h = spans_there sp h (seen_end s b (items_from s b l n file) (last_of s n file) t.next r a e)
-
-  pub break_next : (r : Seen) (u : Item) (x : ℕ) → SeenBy r s b (items_from s b l n file) (last_of s n file) t.next → r ≡ seen.Token u → t.next < to → to ≤ last_of s n file
-      → t.pend.kind ≡ Byte → x ≡ get_or (raw_of s b t.pend) 0 0 → x ≡ 92
+  -- the token behind it
+  pub break_next : (u : Item) → ItemIs (items_from s b l n file) (last_of s n file) t.next (item_of s b u) u.next → t.next < to → to ≤ last_of s n file
+      → {x : ℕ} → t.pend.kind ≡ Byte → x ≡ get_or (raw_of s b t.pend) 0 0 → x ≡ 92
       → eqb u.pend.kind Newline ≡ (is_backslash (item_of s b t) && before_newline ps)
   unfolding pending_by
-  break_next r u x a e h m k w g =
-      let v = spans_cons (items_apart s b l n file) (seen_token s b (items_from s b l n file) (last_of s n file) t.next r u a e) sp h m in
+  break_next u a h m {x} k w g =
+      let v = spans_cons (items_apart s b l n file) a sp h m in
       rw (break_byte s b t (before_newline ps) x k w, g, v.list)

@@ -8,14 +8,12 @@ use mathlib.Core.Path.{◌≡◌, refl, sym, ap, ◌∙◌}
 use native.Mathlib.Omega.{arith}
 use Rattle.pending.specs.Pending.{Pending, is_blank}
 use Rattle.pending.specs.References.{pending_by}
-use Rattle.pending.specs.Sources.{items_from, last_of, item_of, ItemIs, SeenBy, Spans}
+use Rattle.pending.specs.Sources.{items_from, last_of, item_of, ItemIs, Spans}
 use Rattle.pending.specs.Sources.Spans.{none}
 use Rattle.pending.specs.declared.Item.{Item}
-use Rattle.pending.specs.declared.Seen.{Seen}
-use Rattle.pending.specs.declared.Seen.TheVariants as seen
 use Rattle.pending.proofs.Spanning.{Past, spans_less, spans_at, spans_snoc, spans_cons, items_apart}
 use Rattle.replace.specs.Tidying.{cleaned, before_newline, is_backslash, cleaned_all, drop_left, drop_right, tidy, Trims}
-use Rattle.replace.proofs.Tidying.{both_more, both_stop, cleaned_spacing, cleaned_break, cleaned_more, seen_token, seen_end, spans_there}
+use Rattle.replace.proofs.Tidying.{both_more, both_stop, cleaned_spacing, cleaned_break, cleaned_more, spans_there}
 
 -- of ps the tokens `read` are passed, up to i, which give `done`; those before e are kept
 pub record Trimming (f : ℕ → List Pending) (from to i e : ℕ) (ps : List Pending) : Type 0 where
@@ -140,14 +138,11 @@ module _ {f : ℕ → List Pending} {from to i e : ℕ} {ps : List Pending} (T :
 
 -- ---- by what the code sees
 
-module _ (s b : List ℕ) (l : List (List ℕ)) (n : ℕ) (file : Bool) {from to i e : ℕ} {ps : List Pending} (T : Trimming (items_from s b l n file) from to i e ps) (r : Seen) (sees : SeenBy r s b (items_from s b l n file) (last_of s n file) i) (h : i < to) (m : to ≤ last_of s n file) where
-  pub trim_none : r ≡ seen.End → ⊥
-  trim_none q = spans_there T.ahead h (seen_end s b (items_from s b l n file) (last_of s n file) i r sees q)
+module _ (s b : List ℕ) (l : List (List ℕ)) (n : ℕ) (file : Bool) {from to i e : ℕ} {ps : List Pending} (T : Trimming (items_from s b l n file) from to i e ps) (h : i < to) (m : to ≤ last_of s n file) where
+  pub trim_none : items_from s b l n file i ≡ [] → ⊥
+  trim_none q = spans_there T.ahead h q
 
-  module _ (t : Item) (q : r ≡ seen.Token t) where
-    item : ItemIs (items_from s b l n file) (last_of s n file) i (item_of s b t) t.next
-    item = seen_token s b (items_from s b l n file) (last_of s n file) i r t sees q
-
+  module _ (t : Item) (item : ItemIs (items_from s b l n file) (last_of s n file) i (item_of s b t) t.next) where
     past : Past (items_from s b l n file) t.next to (item_of s b t) T.rest
     past = spans_cons (items_apart s b l n file) item T.ahead h m
 

@@ -19,8 +19,7 @@ use Rattle.sets.specs.Sets.{members}
 use Rattle.sets.specs.declared.MacroSet.{MacroSet}
 use Rattle.pending.specs.Pending.{Pending, text_token, text_tokens}
 use Rattle.pending.specs.declared.Pend.{Pend}
-use Rattle.pending.specs.declared.Pushed.{Pushed}
-use Rattle.pending.specs.declared.Pushed.TheVariants as pushed
+use Rattle.std.proofs.Common.{Option as Opt, None}
 use Rattle.pending.specs.References.{part_in, raw_of, pending_by}
 use Rattle.pending.specs.Sources.{Spans}
 use Rattle.arguments.specs.Ranges.{Ranged}
@@ -84,11 +83,6 @@ pub record Copying (b : List ℕ) (from to : ℕ) (set : MacroSet) (o : List (Li
   pub same_length : length o' ≡ length o
   pub goes : (s : List ℕ) → Copied s b w set o o' most n i k
 
-pub copy_none : (b : List ℕ) (from to : ℕ) (set : MacroSet) (o : List (List ℕ)) (most n : ℕ) (w : List ℕ) → w ≡ part b from to → Takes o most n
-    → Copying b from to set o most n w o 0 n
-copy_none b from to set o most n w e t =
-    record { is_part = e; takes = t; same_length = refl; goes = λ s. record { done = []; adds = adds_none s b o most n t.filled; list = refl } }
-
 module _ {b : List ℕ} {from to : ℕ} {set : MacroSet} {o : List (List ℕ)} {most n : ℕ} {w : List ℕ} {o' : List (List ℕ)} {i k : ℕ}
     (p : Copying b from to set o most n w o' i k) where
   -- all are added
@@ -139,13 +133,10 @@ module _ {b : List ℕ} {from to : ℕ} {set : MacroSet} {o : List (List ℕ)} {
           let e : i < t.end = ends in
           ap (pending_by s b) z ∙ stored_token s b w from t set (part_own b w from to p.is_part) (omega arith) from_end within
 
-      module _ (r : Pushed) (o2 : List (List ℕ)) (y : (s b : List ℕ) → AddsBy r s b o' o2 most k (pending_by s b x ∷ [])) where
-        added : (s : List ℕ) → AddsBy r s b o' o2 most k (text_token w (members set) t ∷ [])
-        added s = subst (λ (u : Pending). AddsBy r s b o' o2 most k (u ∷ [])) (token_by s) (y s b)
-
-        pub copy_next : {j : ℕ} → r ≡ pushed.Upto j → Copying b from to set o most n w o2 t.end j
-        copy_next {j} q =
-            let a : (s : List ℕ) → Adds s b o' o2 most k j (text_token w (members set) t ∷ []) = λ s. subst (λ (r : Pushed). AddsBy r s b o' o2 most k (text_token w (members set) t ∷ [])) q (added s) in
+      module _ {o2 : List (List ℕ)} where
+        pub copy_next : {j : ℕ} → ((s b : List ℕ) → Adds s b o' o2 most k j (pending_by s b x ∷ [])) → Copying b from to set o most n w o2 t.end j
+        copy_next {j} y =
+            let a : (s : List ℕ) → Adds s b o' o2 most k j (text_token w (members set) t ∷ []) = λ s. subst (λ (u : Pending). Adds s b o' o2 most k j (u ∷ [])) (token_by s) (y s b) in
             record {
               is_part = p.is_part;
               takes = adds_takes (a []) p.takes;
@@ -160,14 +151,13 @@ module _ {b : List ℕ} {from to : ℕ} {set : MacroSet} {o : List (List ℕ)} {
                   };
             }
 
-        pub copy_full : r ≡ pushed.Full → (s : List ℕ)
-            → AddsBy pushed.Full s b o o2 most n (text_tokens (part b from to) (members set) (tokens in_file (part b from to) 0))
-        copy_full q s =
-            let a : AddsBy pushed.Full s b o' o2 most k (text_token w (members set) t ∷ []) = subst (λ (r : Pushed). AddsBy r s b o' o2 most k (text_token w (members set) t ∷ [])) q (added s) in
-            let c = p.goes s in (
-              rw (sym p.is_part, c.list, more) (adds_full_behind c.adds (text_token w (members set) t ∷ []) (text_tokens w (members set) (tokens in_file w t.end)) a.0),
-              a.1 ∙ p.same_length,
-            )
+    pub copy_full : (o2 : List (List ℕ)) → (most < k + 1) × (length o2 ≡ length o') → (s : List ℕ)
+        → AddsBy None s b o o2 most n (text_tokens (part b from to) (members set) (tokens in_file (part b from to) 0))
+    copy_full o2 a s =
+        let c = p.goes s in (
+          rw (sym p.is_part, c.list, more) (adds_full_behind c.adds (text_token w (members set) t ∷ []) (text_tokens w (members set) (tokens in_file w t.end)) a.0),
+          a.1 ∙ p.same_length,
+        )
 
 -- ---- the default of a formal, if it has one
 
@@ -215,26 +205,12 @@ given_none {s} {b} {o} {most} {at} xs k t h = rw (tidied_none xs k h) (adds_none
 
 -- ---- either
 
-pub adds_as : (w : Pushed) (s b : List ℕ) (o o' : List (List ℕ)) (most n : ℕ) {q r : List Pending} → q ≡ r → AddsBy w s b o o' most n q → AddsBy w s b o o' most n r
+pub adds_as : (w : Opt ℕ) (s b : List ℕ) (o o' : List (List ℕ)) (most n : ℕ) {q r : List Pending} → q ≡ r → AddsBy w s b o o' most n q → AddsBy w s b o o' most n r
 adds_as w s b o o' most n e h = subst (λ (q : List Pending). AddsBy w s b o o' most n q) e h
 
 -- the argument q was added, or is too long
-module _ (s b : List ℕ) (o o1 : List (List ℕ)) (most at : ℕ) (r : Pushed) (set : List ℕ) (d : Option (List ℕ)) where
-  some_added : (m : ℕ) (q : List Pending) → AddsBy r s b o o1 most at q → r ≡ pushed.Upto m → Adds s b o o1 most at m q
-  some_added m q h e = subst (λ (r : Pushed). AddsBy r s b o o1 most at q) e h
-
-  pub else_default : (q : List Pending) → AddsBy r s b o o1 most at q → {m : ℕ} → r ≡ pushed.Upto m → m ≡ at
-      → (w : Pushed) (o2 : List (List ℕ)) → AddsBy w s b o1 o2 most at (fallback set d) → AddsBy w s b o o2 most at (or_else set d q)
-  else_default [] h {m} e z w o2 y = adds_by_then (some_added at [] h (e ∙ ap pushed.Upto z)) w o2 (fallback set d) y
-  else_default (p ∷ q) h {m} e z w o2 y = absurd (omega (arith, (some_added m (p ∷ q) h e).count))
-
-  pub else_argument : (q : List Pending) → AddsBy r s b o o1 most at q → {m : ℕ} → r ≡ pushed.Upto m → (m ≡ at → ⊥) → Adds s b o o1 most at m (or_else set d q)
-  else_argument [] h {m} e z = absurd (z (omega (arith, (some_added m [] h e).count)))
-  else_argument (p ∷ q) h {m} e z = some_added m (p ∷ q) h e
-
-  pub else_full : (q : List Pending) → AddsBy r s b o o1 most at q → r ≡ pushed.Full → Takes o most at
-      → (most < at + length (or_else set d q)) × (length o1 ≡ length o)
-  else_full [] h e t =
-      let f : AddsBy pushed.Full s b o o1 most at [] = subst (λ (r : Pushed). AddsBy r s b o o1 most at []) e h in
-      absurd (omega (arith, f.0, t.filled))
-  else_full (p ∷ q) h e t = subst (λ (r : Pushed). AddsBy r s b o o1 most at (p ∷ q)) e h
+module _ (s b : List ℕ) (o o1 : List (List ℕ)) (most at : ℕ) (set : List ℕ) (d : Option (List ℕ)) where
+  pub else_default : (q : List Pending) {m : ℕ} → Adds s b o o1 most at m q → m ≡ at → (w : Opt ℕ) (o2 : List (List ℕ)) → AddsBy w s b o1 o2 most at (fallback set d)
+      → AddsBy w s b o o2 most at (or_else set d q)
+  else_default [] a z w o2 y = let c : Adds s b o o1 most at at [] = subst (λ (j : ℕ). Adds s b o o1 most at j []) z a in adds_by_then c w o2 (fallback set d) y
+  else_default (p ∷ q) a z w o2 y = absurd (omega (arith, a.count))

@@ -1,6 +1,6 @@
 -- What the code of one replacement answers: formals read in the macro bytes, references added, the pending list then.
 -- Assumes nothing.
-use Rattle.std.specs.Prelude.{ℕ, suc, ◌+◌, ◌-◌, ◌<◌, ◌≤◌, Bool, cond, ◌≡◌, List, [], ◌∷◌, ◌++◌, length, take, drop, get_or}
+use Rattle.std.specs.Prelude.{ℕ, suc, ◌+◌, ◌-◌, ◌<◌, ◌≤◌, cond, ◌≡◌, List, [], ◌∷◌, ◌++◌, length, take, drop, get_or, Option, Some}
 use Rattle.text.specs.Bytes.{same, part}
 use Rattle.definition.specs.Definitions.{Parameter, parameter}
 use Rattle.form.specs.Forms.{parameter_forms}
@@ -9,8 +9,6 @@ use Rattle.pending.specs.Pending.{Pending}
 use Rattle.lex.specs.declared.Token.{Token}
 use Rattle.sets.specs.declared.MacroSet.{MacroSet}
 use Rattle.pending.specs.declared.Pend.{Pend}
-use Rattle.pending.specs.declared.Pushed.{Pushed}
-use Rattle.pending.specs.declared.Pushed.TheVariants as pushed
 use Rattle.pending.specs.References.{Store, pendings, stacked}
 use Rattle.pending.specs.Adding.{Takes}
 use Rattle.arguments.specs.Ranges.{Ranged, placed_from, placed_to, Unplaced}
@@ -62,8 +60,8 @@ pub record Ready (f : ℕ → List Pending) (last : ℕ) (r : List (List ℕ)) (
   pub placed : PlacedIn ps r xs
 
 -- and still, if what was to be added to o was
-abbrev pub ReadyBy : Pushed → List ℕ → List ℕ → (ℕ → List Pending) → ℕ → List (List ℕ) → List (List ℕ) → List (List Pending) → Type 0
-ReadyBy w s b f last o r xs = (m : ℕ) → w ≡ pushed.Upto m → Ready f last r xs (pendings s b (take m o))
+abbrev pub ReadyBy : Option ℕ → List ℕ → List ℕ → (ℕ → List Pending) → ℕ → List (List ℕ) → List (List ℕ) → List (List Pending) → Type 0
+ReadyBy w s b f last o r xs = (m : ℕ) → w ≡ Some m → Ready f last r xs (pendings s b (take m o))
 
 -- what is lent to put a token t of the text w in place, which starts at `base` of the macro bytes b
 pub record Images (l : List (List ℕ)) (n : ℕ) (r : List (List ℕ)) (given : ℕ) (b : List ℕ) (first count base : ℕ) (w : List ℕ) (t : Token) (o : List (List ℕ)) (most at : ℕ) : Type 0 where

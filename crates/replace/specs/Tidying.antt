@@ -1,6 +1,6 @@
 -- An argument as it is put in place (01: "Text: each comment becomes one space, .. defaults and arguments likewise").
 -- Assumes nothing.
-use Rattle.std.specs.Prelude.{ℕ, ◌≤◌, Bool, true, false, cond, ◌&&◌, ◌≡◌, List, [], ◌∷◌, eqb, get_or}
+use Rattle.std.specs.Prelude.{ℕ, ◌≤◌, Bool, false, cond, ◌&&◌, ◌≡◌, List, [], ◌∷◌, eqb, get_or}
 use Rattle.lex.specs.Tokens.{White, Newline, String, Byte}
 use Rattle.storing.specs.Stored.{joined_from}
 use Rattle.pending.specs.Pending.{Pending, is_spacing, is_comment}

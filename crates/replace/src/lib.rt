@@ -20,10 +20,7 @@ ghost use Rattle.replace.specs.Placing.{FormalsAt, MacroIn, UsageIn, WhichIs, St
 use genuine::{formal_end, formal_name, mark_at};
 use lex::{BYTE, ESCAPED, NAME, NEWLINE, Token, in_file, in_text, marks_after, token_at};
 use packed::Record;
-use pending::{
-    Item, Pend, Pushed, STORE, Seen, clean, first_byte, is_blank, is_spacing, item_at, pend_of,
-    push,
-};
+use pending::{Item, Pend, STORE, clean, first_byte, is_blank, is_spacing, item_at, pend_of, push};
 use sets::MacroSet;
 use text::{part_of, peek, same};
 
@@ -50,13 +47,9 @@ fn is_break<'a>(
     if to <= t.next {
         return false;
     }
-    let r = item_at(s, list, n, file, t.next);
-    match r {
-        Seen::End => false,
-        Seen::Token(u) => {
-            let q = u.pend;
-            q.kind == NEWLINE
-        }
+    match item_at(s, list, n, file, t.next) {
+        Some(u) => u.pend.kind == NEWLINE,
+        None => false,
     }
 }
 
@@ -76,24 +69,18 @@ fn argument_end<'a>(
     let mut i = from;
     let mut e = from;
     while i < to {
-        let r = item_at(s, list, n, file, i);
-        match r {
-            Seen::End => {
-                return e;
-            }
-            Seen::Token(t) => {
-                i = t.next;
-                let p = t.pend;
-                if is_blank(p.kind) {
-                    continue;
-                }
-                if is_break(s, b, list, n, file, t, to) {
-                    continue;
-                }
-                e = t.next;
-                continue;
-            }
+        let Some(t) = item_at(s, list, n, file, i) else {
+            return e;
+        };
+        i = t.next;
+        let p = t.pend;
+        if is_blank(p.kind) {
+            continue;
         }
+        if is_break(s, b, list, n, file, t, to) {
+            continue;
+        }
+        e = t.next;
     }
     e
 }
@@ -110,41 +97,27 @@ fn push_kept<'a>(
     out: &mut [[u64; 9]],
     most: usize,
     at: usize,
-) -> Pushed
+) -> Option<usize>
     requires { (n ≤ length list.now) × Takes out.old most at }
     ensures { (ps : List Pending) → Spans (items_from s.now b.now list.now n file) from to ps → to ≤ last_of s.now n file → AddsBy result s.now b.now out.old out.new most at (drop_left (cleaned_all ps)) }
 {
     let mut i = from;
     let mut k = at;
     while i < to {
-        let r = item_at(s, list, n, file, i);
-        match r {
-            Seen::End => {
-                return Pushed::Upto(k);
-            }
-            Seen::Token(t) => {
-                i = t.next;
-                if is_break(s, b, list, n, file, t, to) {
-                    continue;
-                }
-                let p = clean(t.pend);
-                if (k == at) & is_spacing(p.kind) {
-                    continue;
-                }
-                let q = push(out, most, k, p);
-                match q {
-                    Pushed::Upto(m) => {
-                        k = m;
-                        continue;
-                    }
-                    Pushed::Full => {
-                        return Pushed::Full;
-                    }
-                }
-            }
+        let Some(t) = item_at(s, list, n, file, i) else {
+            return Some(k);
+        };
+        i = t.next;
+        if is_break(s, b, list, n, file, t, to) {
+            continue;
         }
+        let p = clean(t.pend);
+        if (k == at) & is_spacing(p.kind) {
+            continue;
+        }
+        k = push(out, most, k, p)?;
     }
-    Pushed::Upto(k)
+    Some(k)
 }
 
 // Adds the argument from `from` to before `to` as it is put in place.
@@ -159,7 +132,7 @@ fn push_argument<'a>(
     out: &mut [[u64; 9]],
     most: usize,
     at: usize,
-) -> Pushed
+) -> Option<usize>
     requires { (n ≤ length list.now) × Takes out.old most at }
     ensures { (ps : List Pending) → Spans (items_from s.now b.now list.now n file) from to ps → to ≤ last_of s.now n file → AddsBy result s.now b.now out.old out.new most at (tidy ps) }
 {
@@ -176,13 +149,11 @@ pub fn is_enough(b: &[u8], at: usize, count: usize, given: usize) -> bool
         return false;
     }
     let mut i = at;
-    let mut k = 0;
-    while k < count {
+    for k in 0..count {
         if (given <= k) & (peek(b, mark_at(b, i)) == 0) {
             return false;
         }
         i = formal_end(b, i);
-        k += 1;
     }
     true
 }
@@ -200,13 +171,11 @@ fn formal_of(b: &[u8], at: usize, count: usize, w: &[u8]) -> Which
     ensures { (result.number ≤ count) × (result.at ≤ 17179869184) × ((fs : List Parameter) → FormalsAt b.now at fs → count ≡ length fs → WhichIs b.now fs w.now result) }
 {
     let mut i = at;
-    let mut k = 0;
-    while k < count {
+    for k in 0..count {
         if same(w, formal_name(b, i)) {
             return Which { number: k, at: i };
         }
         i = formal_end(b, i);
-        k += 1;
     }
     Which {
         number: count,
@@ -238,7 +207,7 @@ fn push_default(
     out: &mut [[u64; 9]],
     most: usize,
     n: usize,
-) -> Pushed
+) -> Option<usize>
     requires { (length b.now ≤ 65536) × Takes out.old most n }
     ensures { (s : List ℕ) → AddsBy result s b.now out.old out.new most n (text_tokens (part b.now from to) (members set) (tokens in_file (part b.now from to) 0)) }
 {
@@ -247,19 +216,10 @@ fn push_default(
     let mut k = n;
     while i < w.len() {
         let t = token_at(w, i, in_file());
-        let r = push(out, most, k, stored_ref(from, t, set));
-        match r {
-            Pushed::Upto(m) => {
-                k = m;
-                i = t.end;
-                continue;
-            }
-            Pushed::Full => {
-                return Pushed::Full;
-            }
-        }
+        k = push(out, most, k, stored_ref(from, t, set))?;
+        i = t.end;
     }
-    Pushed::Upto(k)
+    Some(k)
 }
 
 // Adds the default of the formal whose form starts at `at`, if it has one.
@@ -270,7 +230,7 @@ fn push_fallback(
     out: &mut [[u64; 9]],
     most: usize,
     n: usize,
-) -> Pushed
+) -> Option<usize>
     requires { (length b.now ≤ 65536) × (at ≤ 17179869184) × Takes out.old most n }
     ensures { (s : List ℕ) (f : List ℕ) (d : Option (List ℕ)) (fs : List Parameter) → FormalsAt b.now at (parameter f d ∷ fs) → AddsBy result s b.now out.old out.new most n (fallback (members set) d) }
 {
@@ -279,27 +239,16 @@ fn push_fallback(
 }
 
 // Adds the references from `from` to before `to` of `out` once more.
-fn push_again(out: &mut [[u64; 9]], from: usize, to: usize, most: usize, at: usize) -> Pushed
+fn push_again(out: &mut [[u64; 9]], from: usize, to: usize, most: usize, at: usize) -> Option<usize>
     requires { (to ≤ at) × Takes out.old most at }
     ensures { (s b : List ℕ) → AddsBy result s b out.old out.new most at (take (to - from) (drop from (pendings s b (take at out.old)))) }
 {
-    let mut i = from;
     let mut k = at;
-    while i < to {
+    for i in from..to {
         let p = pend_of(out[i]);
-        let r = push(out, most, k, p);
-        match r {
-            Pushed::Upto(m) => {
-                k = m;
-                i += 1;
-                continue;
-            }
-            Pushed::Full => {
-                return Pushed::Full;
-            }
-        }
+        k = push(out, most, k, p)?;
     }
-    Pushed::Upto(k)
+    Some(k)
 }
 
 // Adds argument `k` of the `given`, if it is one of them: read the first time, then copied from where it was put.
@@ -315,25 +264,20 @@ fn push_given<'a>(
     out: &mut [[u64; 9]],
     most: usize,
     at: usize,
-) -> Pushed
+) -> Option<usize>
     requires { (n ≤ length list.now) × (k < length ranges.old) × PlacedBefore ranges.old given at × Takes out.old most at }
     ensures { (xs : List (List Pending)) → given ≡ length xs → Ready (items_from s.now b.now list.now n file) (last_of s.now n file) ranges.old xs (pendings s.now b.now (take at out.old)) → AddsBy result s.now b.now out.old out.new most at (get_or (tidy_all xs) k []) × ReadyBy result s.now b.now (items_from s.now b.now list.now n file) (last_of s.now n file) out.new ranges.new xs }
 {
     if given <= k {
-        return Pushed::Upto(at);
+        return Some(at);
     }
     let v = ranges[k];
     if v[2] <= v[3] {
         return push_again(out, v[2], v[3], most, at);
     }
-    let r = push_argument(s, b, list, n, file, v[0], v[1], out, most, at);
-    match r {
-        Pushed::Upto(m) => {
-            ranges[k] = [v[0], v[1], at, m];
-            Pushed::Upto(m)
-        }
-        Pushed::Full => Pushed::Full,
-    }
+    let m = push_argument(s, b, list, n, file, v[0], v[1], out, most, at)?;
+    ranges[k] = [v[0], v[1], at, m];
+    Some(m)
 }
 
 // Adds what takes the place of formal `k`, whose form starts at `form`.
@@ -351,20 +295,15 @@ fn push_value<'a>(
     out: &mut [[u64; 9]],
     most: usize,
     at: usize,
-) -> Pushed
+) -> Option<usize>
     requires { (n ≤ length list.now) × (k < length ranges.old) × PlacedBefore ranges.old given at × (length b.now ≤ 65536) × (form ≤ 17179869184) × Takes out.old most at }
     ensures { (xs : List (List Pending)) (f : List ℕ) (d : Option (List ℕ)) (fs : List Parameter) → FormalsAt b.now form (parameter f d ∷ fs) → given ≡ length xs → Ready (items_from s.now b.now list.now n file) (last_of s.now n file) ranges.old xs (pendings s.now b.now (take at out.old)) → AddsBy result s.now b.now out.old out.new most at (or_else (members set) d (get_or (tidy_all xs) k [])) × ReadyBy result s.now b.now (items_from s.now b.now list.now n file) (last_of s.now n file) out.new ranges.new xs }
 {
-    let r = push_given(s, b, list, n, file, ranges, given, k, out, most, at);
-    match r {
-        Pushed::Upto(m) => {
-            if m == at {
-                return push_fallback(b, form, set, out, most, at);
-            }
-            Pushed::Upto(m)
-        }
-        Pushed::Full => Pushed::Full,
+    let m = push_given(s, b, list, n, file, ranges, given, k, out, most, at)?;
+    if m == at {
+        return push_fallback(b, form, set, out, most, at);
     }
+    Some(m)
 }
 
 // Adds what takes the place of the token `t` of the text `w`, which starts at `base` of the macro bytes.
@@ -385,7 +324,7 @@ fn push_image<'a>(
     out: &mut [[u64; 9]],
     most: usize,
     at: usize,
-) -> Pushed
+) -> Option<usize>
     requires { Images list.now n ranges.old given b.now first count base w.now t out.old most at }
     ensures { (xs : List (List Pending)) (fs : List Parameter) → FormalsAt b.now first fs → count ≡ length fs → given ≡ length xs → Ready (items_from s.now b.now list.now n file) (last_of s.now n file) ranges.old xs (pendings s.now b.now (take at out.old)) → AddsBy result s.now b.now out.old out.new most at (image_in (members set) fs (tidy_all xs) (text_token w.now (members set) t)) × ReadyBy result s.now b.now (items_from s.now b.now list.now n file) (last_of s.now n file) out.new ranges.new xs }
 {
@@ -414,7 +353,7 @@ pub fn push_text<'a>(
     set: MacroSet,
     out: &mut [[u64; 9]],
     most: usize,
-) -> Pushed
+) -> Option<usize>
     requires { (n ≤ length list.now) × (256 ≤ length ranges.old) × (length b.now ≤ 65536) × Small q × (most ≤ length out.old) × UsageIn b.now q (items_from s.now b.now list.now n file) (last_of s.now n file) ranges.old given }
     ensures { (fs : List Parameter) (t : List ℕ) (xs : List (List Pending)) → MacroIn b.now q fs t → given ≡ length xs → Ranged (items_from s.now b.now list.now n file) (last_of s.now n file) ranges.old xs → AddsBy result s.now b.now out.old out.new most 0 (text_with (members set) fs (tidy_all xs) t) }
 {
@@ -426,7 +365,7 @@ pub fn push_text<'a>(
     let mut marks = false;
     while i < w.len() {
         let t = token_at(w, i, in_text(marks));
-        let r = push_image(
+        k = push_image(
             s,
             b,
             list,
@@ -443,26 +382,17 @@ pub fn push_text<'a>(
             out,
             most,
             k,
-        );
-        match r {
-            Pushed::Upto(m) => {
-                k = m;
-                marks = marks_after(marks, t);
-                i = t.end;
-                continue;
-            }
-            Pushed::Full => {
-                return Pushed::Full;
-            }
-        }
+        )?;
+        marks = marks_after(marks, t);
+        i = t.end;
     }
-    Pushed::Upto(k)
+    Some(k)
 }
 
 pub fn larger(a: usize, b: usize) -> usize
     ensures { result ≡ max a b }
 {
-    if a < b { b } else { a }
+    a.max(b)
 }
 
 fn size_of(v: [u64; 9]) -> usize
@@ -477,15 +407,11 @@ pub fn stack_on(list: &mut [[u64; 9]], n: usize, out: &[[u64; 9]], m: usize) -> 
     requires { (n + m ≤ length list.old) × (m ≤ length out.now) }
     ensures { (s b : List ℕ) → Stacks s b list.old list.new n out.now m result }
 {
-    let mut k = m;
-    let mut i = n;
     let mut d = 0;
-    while 0 < k {
-        k -= 1;
-        let v = out[k];
-        list[i] = v;
+    for i in 0..m {
+        let v = out[m - 1 - i];
+        list[n + i] = v;
         d = larger(size_of(v), d);
-        i += 1;
     }
     d
 }

@@ -1,6 +1,6 @@
 -- `arguments::byte_move` meets its contract: the move is the step that the byte takes among brackets.
 -- Assumes nothing.
-use Rattle.arguments.proofs.Moves.{byte_keep, byte_part, byte_close, byte_fail, byte_room}
+use Rattle.arguments.proofs.Moves.{byte_keep, byte_part, byte_close, byte_fail}
 use Rattle.arguments.proofs.byte_move.Goals as goal
 
 pub returns-then-b-eq44 : goal.returns-then-b-eq44
@@ -14,6 +14,3 @@ returns-else-b-eq44 c = byte_close _ _ _ _ c.step-r.result c.step-r.ensures c.in
 
 pub returns-in-Torn : goal.returns-in-Torn
 returns-in-Torn c = byte_fail _ _ _ _ c.step-r.result c.step-r.ensures c.in-Torn.is
-
-pub returns-in-Short : goal.returns-in-Short
-returns-in-Short c = byte_room _ _ _ _ c.step-r.result c.step-r.ensures c.in-Short.is c.requires.0 c.requires.1

@@ -9,16 +9,9 @@ use Rattle.expand.proofs.step.Goals as goal
 pub returns-then-z-eq0 : goal.returns-then-z-eq0
 returns-then-z-eq0 c ms h = (step_none (outer c.args.file.now c.args.line.now c.args.place) ms c.args.s.now c.args.b.now c.args.list.now c.args.limit c.args.text.now c.args.map.now c.args.z c.if-z-eq0.true, refl, refl)
 
-pub replace_top-requires : goal.replace_top-requires
-replace_top-requires c = (omega (arith, c.requires.0.few, c.if-z-eq0.false), c.requires.1)
-
 pub returns-then-is_usage : goal.returns-then-is_usage
 returns-then-is_usage c ms h =
     step_replaced (outer c.args.file.now c.args.line.now c.args.place) ms c.args.s.now c.args.b.now c.args.list.now c.args.limit c.args.text.now c.args.map.now c.args.z c.pend_of-p.result (omega (arith, c.if-z-eq0.false)) c.requires.0.few c.requires.1.list_lent c.pend_of-p.ensures (sym c.is_usage.ensures ∙ c.if-is_usage.true) c.requires.0 c.name_of.ensures c.replace_top.result _ (c.replace_top.ensures ms h)
-
-pub write_token-r-requires : goal.write_token-r-requires
-write_token-r-requires c =
-    record { file_small = c.requires.1.file_small; bytes_small = c.requires.1.bytes_small; work_lent = c.requires.2; spot = c.requires.0.spot }
 
 pub returns-in-Upto : goal.returns-in-Upto
 returns-in-Upto c ms h =

@@ -1,6 +1,6 @@
 -- `replace::is_break` meets its contract.
 -- Assumes nothing.
-use Rattle.replace.proofs.Tidying.{break_kind, break_first, break_out, break_end, break_next}
+use Rattle.replace.proofs.Tidying.{break_kind, break_first, break_out, break_next}
 use Rattle.replace.proofs.is_break.Goals as goal
 
 pub returns-then-p-ne-BYTE : goal.returns-then-p-ne-BYTE
@@ -12,8 +12,5 @@ returns-then-first_byte-ne92 c ps sp h = break_first _ _ c.args.t _ _ c.if-p-ne-
 pub returns-then-to-t : goal.returns-then-to-t
 returns-then-to-t c ps sp h = break_out _ _ _ _ _ c.args.t _ _ sp c.if-to-t.true
 
-pub returns-in-End : goal.returns-in-End
-returns-in-End c ps sp h = absurd (break_end _ _ _ _ _ c.args.t _ _ sp _ (c.item_at-r.ensures _) c.in-End.is c.if-to-t.false)
-
-pub returns-in-Token : goal.returns-in-Token
-returns-in-Token c ps sp h = break_next _ _ _ _ _ c.args.t _ _ sp _ _ _ (c.item_at-r.ensures _) c.in-Token.is c.if-to-t.false h c.if-p-ne-BYTE.false c.first_byte.ensures c.if-first_byte-ne92.false
+pub returns-in-Some : goal.returns-in-Some
+returns-in-Some c ps sp h = break_next _ c.args.b.now _ _ _ c.args.t _ _ sp c.in-Some.u (c.in-Some.ensures c.args.b.now) c.if-to-t.false h c.if-p-ne-BYTE.false c.first_byte.ensures c.if-first_byte-ne92.false

@@ -1,21 +1,11 @@
-use native.Mathlib.Omega.{arith}
-use Rattle.replace.proofs.Formals.{passed_none, passed_all, passed_short, passed_next, too_many}
+use Rattle.replace.proofs.Formals.{passed_all, passed_short, passed_next, too_many}
 use Rattle.replace.proofs.is_enough.Goals as goal
 
 pub returns-then-count-given : goal.returns-then-count-given
 returns-then-count-given c = too_many _ _ _ _ c.if-count-given.true
 
-pub loop-k-init : goal.loop-k-init
-loop-k-init c = passed_none _ _ _ _
-
-pub mark_at-requires : goal.mark_at-requires
-mark_at-requires c = omega (arith, c.loop-k.invariant.moved)
-
 pub returns-then-given-k : goal.returns-then-given-k
 returns-then-given-k c = passed_short c.loop-k.invariant c.loop-k-test.true c.mark_at.ensures c.peek.ensures c.if-given-k.true
-
-pub formal_end-i-requires : goal.formal_end-i-requires
-formal_end-i-requires c = omega (arith, c.loop-k.invariant.moved)
 
 pub loop-k-preserved : goal.loop-k-preserved
 loop-k-preserved c = passed_next c.loop-k.invariant c.loop-k-test.true c.mark_at.ensures c.peek.ensures c.if-given-k.false c.formal_end-i.ensures

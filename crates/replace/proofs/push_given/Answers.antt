@@ -1,16 +1,14 @@
 -- `values::push_given` meets its contract.
 -- Assumes nothing.
-use mathlib.Core.Path.{sym, subst}
+use mathlib.Core.Path.{sym}
 use mathlib.Core.List.{[]}
 use Prim.Native.Nat.{◌<◌}
 use native.Mathlib.Omega.{arith}
 use lib.ListN.{length, get_or}
-use Rattle.pending.specs.declared.Pushed.{Pushed}
-use Rattle.pending.specs.declared.Pushed.TheVariants as pushed
-use Rattle.pending.specs.Adding.{AddsBy}
+use Rattle.std.proofs.Common.{None}
 use Rattle.pending.specs.References.{pendings}
 use lib.ListN.{take}
-use Rattle.replace.specs.Tidying.{tidy, tidy_all}
+use Rattle.replace.specs.Tidying.{tidy_all}
 use Rattle.replace.proofs.Values.{given_none, ranged_at, tidied_at, adds_as}
 use Rattle.replace.proofs.Ready.{ready_on, ready_here, ready_full, before_at, placed_again, given_placed}
 use Rattle.replace.proofs.push_given.Goals as goal
@@ -35,25 +33,22 @@ returns-then-v c xs e g =
     let d = adds_as r a.s.now a.b.now a.out.now o a.most a.at q (c.push_again.ensures a.s.now a.b.now) in
     (d, ready_on a.s.now a.b.now a.out.now a.at g r o a.most (get_or (tidy_all xs) a.k []) d)
 
-pub push_argument-r-requires : goal.push_argument-r-requires
-push_argument-r-requires c = (c.requires.0, c.requires.3)
-
-pub returns-in-Upto : goal.returns-in-Upto
-returns-in-Upto c xs e g =
+pub returns : goal.returns
+returns c xs e g =
     let a = c.args in
     let h : a.k < length xs = omega arith in
     let p = ranged_at a.ranges.now xs g.ranged a.k h c.requires.1 in
-    given_placed a.s.now a.b.now a.out.now c.push_argument-r.new.out a.most a.at a.ranges.now xs a.k g h c.requires.1
-    (omega (arith, c.requires.3)) c.push_argument-r.result (c.push_argument-r.ensures (get_or xs a.k []) p.0 p.1) _ c.in-Upto.is
+    given_placed a.s.now a.b.now a.out.now c.push_argument.new.out a.most a.at a.ranges.now xs a.k g h c.requires.1
+    (omega (arith, c.requires.3)) (c.in_ok-m.ensures (get_or xs a.k []) p.0 p.1)
 
-pub returns-in-Full : goal.returns-in-Full
-returns-in-Full c xs e g =
+pub returns-in_err-m : goal.returns-in_err-m
+returns-in_err-m c xs e g =
     let a = c.args in
-    let o = c.push_argument-r.new.out in
+    let o = c.push_argument.new.out in
     let h : a.k < length xs = omega arith in
-    let p = ranged_at a.ranges.now xs g.ranged a.k h c.requires.1 in (
-      adds_as pushed.Full a.s.now a.b.now a.out.now o a.most a.at (sym (tidied_at xs a.k h))
-          (subst (λ (r : Pushed). AddsBy r a.s.now a.b.now a.out.now o a.most a.at (tidy (get_or xs a.k []))) c.in-Full.is
-          (c.push_argument-r.ensures (get_or xs a.k []) p.0 p.1)),
-      λ m f. ready_full f,
+    let p = ranged_at a.ranges.now xs g.ranged a.k h c.requires.1 in
+    rw c.from_residual.ensures (
+      adds_as None a.s.now a.b.now a.out.now o a.most a.at (sym (tidied_at xs a.k h))
+          (c.in_err-m.ensures (get_or xs a.k []) p.0 p.1),
+      λ m q. ready_full q,
     )

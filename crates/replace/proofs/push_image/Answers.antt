@@ -6,13 +6,8 @@ use Rattle.sets.specs.Sets.{members}
 use Rattle.pending.specs.References.{pending_by}
 use Rattle.replace.specs.Tidying.{tidy_all}
 use Rattle.replace.proofs.Ready.{ready_on}
-use Rattle.replace.proofs.Texts.{at_formal, image_value, image_kept, image_none, image_other, stored_fits}
+use Rattle.replace.proofs.Texts.{at_formal, image_value, image_kept, image_none, image_other}
 use Rattle.replace.proofs.push_image.Goals as goal
-
-pub push_value-requires : goal.push_value-requires
-push_value-requires c =
-    let h = c.requires in
-    (h.filled, omega (arith, c.if-f-count.true, h.formals, h.ranges), h.placed, h.bytes, c.formal_of-f.ensures.1, h.takes)
 
 pub returns-then-f-count : goal.returns-then-f-count
 returns-then-f-count c xs fs g n m r =
@@ -24,9 +19,6 @@ returns-then-f-count c xs fs g n m r =
       at_formal a.b.now fs _ v i (omega (arith, c.if-f-count.true, n)) (λ f d rest e. (c.push_value.ensures xs f d rest e m r).1),
     )
 
-pub stored_ref-requires : goal.stored_ref-requires
-stored_ref-requires c = stored_fits c.requires
-
 pub returns-then-t : goal.returns-then-t
 returns-then-t c xs fs g n m r =
     let a = c.args in
@@ -37,9 +29,6 @@ returns-then-t c xs fs g n m r =
           y,
       ready_on a.s.now a.b.now a.out.now a.at r c.push.result c.push.new.out a.most (pending_by a.s.now a.b.now c.stored_ref.result ∷ []) y,
     )
-
-pub stored_ref-requires-2 : goal.stored_ref-requires-2
-stored_ref-requires-2 c = stored_fits c.requires
 
 pub returns : goal.returns
 returns c xs fs g n m r =

@@ -1,15 +1,12 @@
 use mathlib.Core.Path.{refl, ◌∙◌}
 use native.Mathlib.Omega.{arith}
 use Rattle.storing.proofs.Reading.{token_past}
-use Rattle.replace.proofs.Ready.{ready_first, ready_before}
-use Rattle.replace.proofs.Texts.{placed_none, placed_more, placed_full, placed_all, part_own, token_inside}
+use Rattle.replace.proofs.Ready.{ready_before}
+use Rattle.replace.proofs.Texts.{placed_more, placed_full, placed_all, part_own, token_inside}
 use Rattle.replace.proofs.push_text.Goals as goal
 
-pub loop-i-init : goal.loop-i-init
-loop-i-init c = (refl, omega arith, refl, λ fs t xs m g r. (placed_none, ready_first r g c.requires.5.unplaced))
-
-pub push_image-r-requires : goal.push_image-r-requires
-push_image-r-requires c =
+pub push_image-requires : goal.push_image-requires
+push_image-requires c =
     let a = c.args in
     let h = c.requires in
     let u = h.5 in
@@ -34,31 +31,20 @@ loop-i-smaller c = omega (arith, token_past _ _ _ _ c.token_at-t.ensures c.loop-
 pub loop-i-preserved : goal.loop-i-preserved
 loop-i-preserved c =
     let u = c.requires.5 in (
-      c.push_image-r.auto.out ∙ c.loop-i.invariant.0,
-      (placed_more (c.loop-i.invariant.3 u.formals u.text u.arguments u.macro_in u.count u.ranged).0 _ _ c.push_image-r.result _ _ _ c.loop-i-test.true c.in_text.ensures c.token_at-t.ensures c.in-Upto.is (c.push_image-r.ensures u.arguments u.formals u.macro_in.formals (c.peek-count.ensures ∙ u.macro_in.count) u.count (c.loop-i.invariant.3 u.formals u.text u.arguments u.macro_in u.count u.ranged).1).0 c.marks_after-marks.ensures).adds.fits,
-      c.push_image-r.auto.ranges ∙ c.loop-i.invariant.2,
-      λ fs t xs m g r. (
-        placed_more (c.loop-i.invariant.3 fs t xs m g r).0 _ _ c.push_image-r.result _ _ _ c.loop-i-test.true c.in_text.ensures c.token_at-t.ensures c.in-Upto.is (c.push_image-r.ensures xs fs m.formals (c.peek-count.ensures ∙ m.count) g (c.loop-i.invariant.3 fs t xs m g r).1).0 c.marks_after-marks.ensures,
-        (c.push_image-r.ensures xs fs m.formals (c.peek-count.ensures ∙ m.count) g (c.loop-i.invariant.3 fs t xs m g r).1).1 _ c.in-Upto.is,
-      ),
+      c.push_image.auto.out ∙ c.loop-i.invariant.0,
+      (placed_more (c.loop-i.invariant.3 u.formals u.text u.arguments u.macro_in u.count u.ranged).0 _ _ _ _ _ c.loop-i-test.true c.in_text.ensures c.token_at-t.ensures (c.in_ok-k.ensures u.arguments u.formals u.macro_in.formals (c.peek-count.ensures ∙ u.macro_in.count) u.count (c.loop-i.invariant.3 u.formals u.text u.arguments u.macro_in u.count u.ranged).1).0 c.marks_after-marks.ensures).adds.fits,
+      c.push_image.auto.ranges ∙ c.loop-i.invariant.2,
+      λ fs t xs m g r.
+          let p = c.in_ok-k.ensures xs fs m.formals (c.peek-count.ensures ∙ m.count) g (c.loop-i.invariant.3 fs t xs m g r).1 in (
+            placed_more (c.loop-i.invariant.3 fs t xs m g r).0 _ _ _ _ _ c.loop-i-test.true c.in_text.ensures c.token_at-t.ensures p.0 c.marks_after-marks.ensures,
+            p.1 _ refl,
+          ),
     )
 
-pub shape_of-ranges-in-Full : goal.shape_of-ranges-in-Full
-shape_of-ranges-in-Full c = c.push_image-r.auto.ranges ∙ c.loop-i.invariant.2
-
-pub shape_of-out-in-Full : goal.shape_of-out-in-Full
-shape_of-out-in-Full c = c.push_image-r.auto.out ∙ c.loop-i.invariant.0
-
-pub returns-in-Full : goal.returns-in-Full
-returns-in-Full c fs t xs m g r =
+pub returns-in_err-k : goal.returns-in_err-k
+returns-in_err-k c fs t xs m g r =
     let v = c.loop-i.invariant.3 fs t xs m g r in
-    placed_full v.0 _ _ c.push_image-r.result _ t c.loop-i-test.true c.in_text.ensures c.token_at-t.ensures c.in-Full.is (c.push_image-r.ensures xs fs m.formals (c.peek-count.ensures ∙ m.count) g v.1).0 (c.part_of-w.ensures ∙ m.text)
-
-pub shape_of-ranges : goal.shape_of-ranges
-shape_of-ranges c = c.loop-i.invariant.2
-
-pub shape_of-out : goal.shape_of-out
-shape_of-out c = c.loop-i.invariant.0
+    rw c.from_residual.ensures (placed_full v.0 _ _ _ t c.loop-i-test.true c.in_text.ensures c.token_at-t.ensures (c.in_err-k.ensures xs fs m.formals (c.peek-count.ensures ∙ m.count) g v.1).0 (c.part_of-w.ensures ∙ m.text))
 
 pub returns : goal.returns
 returns c fs t xs m g r = placed_all (c.loop-i.invariant.3 fs t xs m g r).0 t c.loop-i-test.false (c.part_of-w.ensures ∙ m.text)

@@ -1,10 +1,8 @@
--- `replace::stack_on` meets its contract. The invariant: the references from `k` on are on the list.
+-- `replace::stack_on` meets its contract. The invariant: the last `i` references are on the list.
 -- Assumes nothing.
+use Prim.Native.Nat.{◌+◌, ◌-◌}
 use Rattle.replace.proofs.Stacking.{Onto}
 use Rattle.replace.proofs.stack_on.Given as goal
 
-abbrev pub invariant-loop-k : goal.invariant-loop-k
-invariant-loop-k l = Onto l.initial.list l.list l.n l.out l.m l.k l.i l.d
-
-abbrev pub decreases-loop-k : goal.decreases-loop-k
-decreases-loop-k l = l.k
+abbrev pub invariant-loop-i : goal.invariant-loop-i
+invariant-loop-i l = Onto l.initial.list l.list l.n l.out l.m (l.m - l.i) (l.n + l.i) l.d

@@ -1,10 +1,7 @@
 -- `expand::tokens::join` meets its contract: the string is added behind the first byte.
 -- Assumes nothing.
-use Rattle.expand.proofs.Spelling.{joined_in, joined_fits}
+use Rattle.expand.proofs.Spelling.{joined_fits}
 use Rattle.expand.proofs.tokens.join.Goals as goal
-
-pub returns-in-Upto : goal.returns-in-Upto
-returns-in-Upto c = joined_in _ _ _ c.requires _ c.put_joined-r.ensures c.in-Upto.is
 
 pub returns-in-Short : goal.returns-in-Short
 returns-in-Short c = joined_fits _ _ c.args.w.now c.requires _ c.put_joined-r.ensures c.in-Short.is

@@ -1,11 +1,9 @@
 -- `expand::tokens::space_out` meets its contract.
 -- Assumes nothing.
-use Prim.Native.Nat.{ℕ}
-use mathlib.Core.List.{List, [], ◌∷◌, ◌++◌}
-use mathlib.Core.Path.{ap, ◌∙◌}
+use mathlib.Core.Path.{ap}
 use native.Mathlib.Omega.{arith}
 use lib.ListN.{length}
-use borrow.Author.Tests.{eq-eqb, ne_eqb}
+use borrow.Author.Tests.{eq-eqb}
 use Rattle.pending.specs.References.{raw_of}
 use Rattle.expand.proofs.Spelling.{raw_length}
 use Rattle.expand.proofs.tokens.space_out.Goals as goal
@@ -14,13 +12,7 @@ pub returns-then-p-eq-SPACE : goal.returns-then-p-eq-SPACE
 unfolding raw_of
 returns-then-p-eq-SPACE c = rw (eq-eqb _ _ c.if-p-eq-SPACE.true) c.add_space.ensures
 
-pub bytes_at-requires : goal.bytes_at-requires
-bytes_at-requires c = ne_eqb _ _ c.if-p-eq-SPACE.false
-
 pub add_space-requires-2 : goal.add_space-requires-2
 add_space-requires-2 c =
     let z = c in
     omega (arith, ap length c.bytes_at.ensures, raw_length z.args.s.now z.args.b.now z.args.p z.requires.0 z.requires.1)
-
-pub returns : goal.returns
-returns c = c.add_space-2.ensures ∙ ap (λ (w : List ℕ). w ++ (32 ∷ [])) c.bytes_at.ensures

@@ -3,7 +3,6 @@
 use mathlib.Core.Path.{ap}
 use native.Mathlib.Omega.{arith}
 use lib.ListN.{length}
-use borrow.Author.Tests.{ne_eqb}
 use Rattle.expand.proofs.Spelling.{raw_length, spelled_escaped, spelled_space, spelled_joined, spelled_raw}
 use Rattle.expand.proofs.tokens.write_spelled.Goals as goal
 
@@ -12,9 +11,6 @@ returns-then-p-eq-ESCAPED c = let h = c.if-p-eq-ESCAPED.true in rw (spelled_esca
 
 pub returns-then-p-eq-SPACE : goal.returns-then-p-eq-SPACE
 returns-then-p-eq-SPACE c = let h = c.if-p-eq-ESCAPED.false in let e = c.if-p-eq-SPACE.true in rw spelled_space c.write_whole.ensures
-
-pub bytes_at-w-requires : goal.bytes_at-w-requires
-bytes_at-w-requires c = ne_eqb _ _ c.if-p-eq-SPACE.false
 
 pub join-n-requires : goal.join-n-requires
 join-n-requires c =

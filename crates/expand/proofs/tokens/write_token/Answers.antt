@@ -1,6 +1,5 @@
 -- `expand::tokens::write_token` meets its contract. One law for each kind of token.
 -- Assumes nothing.
-use native.Mathlib.Omega.{arith}
 use Rattle.expand.proofs.Spelling.{writes_quote, writes_escaped_quote, writes_joiner, writes_file, writes_line, writes_spelled}
 use Rattle.expand.proofs.tokens.write_token.Goals as goal
 
@@ -13,14 +12,8 @@ returns-then-p-eq-ESCAPED_QUOTE c = let h = c.if-p-eq-ESCAPED_QUOTE.true in rw w
 pub returns-then-p-eq-JOINER : goal.returns-then-p-eq-JOINER
 returns-then-p-eq-JOINER c = let h = c.if-p-eq-JOINER.true in rw writes_joiner c.write_whole-then-p-eq-JOINER.ensures
 
-pub write_whole-requires-then-directive_of-eq1 : goal.write_whole-requires-then-directive_of-eq1
-write_whole-requires-then-directive_of-eq1 c = record { in_text = c.requires.spot.in_text; in_map = c.requires.spot.in_map; in_place = omega (arith, c.ranges) }
-
 pub returns-then-directive_of-eq1 : goal.returns-then-directive_of-eq1
 returns-then-directive_of-eq1 c = rw (writes_file _ _ _ _ c.if-p-eq-GRAVE.true _ _ c.directive_of.ensures c.name_of.ensures c.if-directive_of-eq1.true) c.write_whole-then-directive_of-eq1.ensures
-
-pub write_whole-requires-then-p-eq-GRAVE : goal.write_whole-requires-then-p-eq-GRAVE
-write_whole-requires-then-p-eq-GRAVE c = record { in_text = c.requires.spot.in_text; in_map = c.requires.spot.in_map; in_place = omega (arith, c.ranges) }
 
 pub returns-then-p-eq-GRAVE : goal.returns-then-p-eq-GRAVE
 returns-then-p-eq-GRAVE c = rw (writes_line _ _ _ _ c.if-p-eq-GRAVE.true _ _ c.directive_of.ensures c.name_of.ensures c.if-directive_of-eq1.false) c.write_whole-then-p-eq-GRAVE.ensures

@@ -19,7 +19,7 @@ overflow_sub-n c =
     let h = p.stored.holds in
     let f = items_from a.s.now a.b.now a.list.now a.n false in
     let ranges = c.accept-f.new.ranges in
-    list_within h a.w.now (members a.set) c.resolve-c.result (c.resolve-c.ensures ms h) _ c.in-Macro.is p.bytes_small c.read-q.ensures f a.n ranges (f 0) c.accept-f.result c.accept-f.ensures _ _ c.in-List.is
+    list_within h a.w.now (members a.set) c.resolve-c.result (c.resolve-c.ensures ms h) _ c.in-Ok.is p.bytes_small c.read-q.ensures f a.n ranges (f 0) c.accept-f.result c.accept-f.ensures _ _ c.in-Ok-f.is
 
 pub put_in-requires : goal.put_in-requires
 put_in-requires c =
@@ -29,7 +29,7 @@ put_in-requires c =
     let h = p.stored.holds in
     let f = items_from a.s.now a.b.now a.list.now a.n false in
     let ranges = c.accept-f.new.ranges in
-    let i = called_below h a.w.now (members a.set) c.resolve-c.result (c.resolve-c.ensures ms h) _ c.in-Macro.is in (
+    let i = called_below h a.w.now (members a.set) c.resolve-c.result (c.resolve-c.ensures ms h) _ c.in-Ok.is in (
       record {
         bytes_small = p.bytes_small;
         record_small = c.read-q.ensures.small;
@@ -40,32 +40,32 @@ put_in-requires c =
         out_lent = p.out_lent;
         ranges_lent = omega (arith, p.ranges_lent, c.accept-f.auto.ranges);
       },
-      list_usage h a.w.now (members a.set) c.resolve-c.result (c.resolve-c.ensures ms h) _ c.in-Macro.is p.bytes_small c.read-q.ensures f a.n ranges (f 0) c.accept-f.result c.accept-f.ensures _ _ c.in-List.is,
+      list_usage h a.w.now (members a.set) c.resolve-c.result (c.resolve-c.ensures ms h) _ c.in-Ok.is p.bytes_small c.read-q.ensures f a.n ranges (f 0) c.accept-f.result c.accept-f.ensures _ _ c.in-Ok-f.is,
     )
 
-pub returns-in-Refused : goal.returns-in-Refused
-returns-in-Refused c ms h =
+pub returns-in-Err : goal.returns-in-Err
+returns-in-Err c ms h =
     let a = c.args in
     let p = c.requires.1 in
     let ps = stacked a.s.now a.b.now a.list.now a.n in
-    replaced_refused ms a.limit a.z _ _ _ (called_refused h a.w.now (members a.set) c.resolve-c.result (c.resolve-c.ensures ms h) _ c.in-Refused.is ps)
+    replaced_refused ms a.limit a.z _ _ _ (called_refused h a.w.now (members a.set) c.resolve-c.result (c.resolve-c.ensures ms h) _ c.in-Err.is ps)
 
-pub returns-in-List : goal.returns-in-List
-returns-in-List c ms h =
+pub returns-in-Ok-f : goal.returns-in-Ok-f
+returns-in-Ok-f c ms h =
     let a = c.args in
     let p = c.requires.1 in
     let f = items_from a.s.now a.b.now a.list.now a.n false in
-    let rest = stacked a.s.now a.b.now a.list.now (a.n - c.in-List.e) in
+    let rest = stacked a.s.now a.b.now a.list.now (a.n - c.in-Ok-f.e) in
     let ranges = c.accept-f.new.ranges in
-    let e = list_within h a.w.now (members a.set) c.resolve-c.result (c.resolve-c.ensures ms h) _ c.in-Macro.is p.bytes_small c.read-q.ensures f a.n ranges (f 0) c.accept-f.result c.accept-f.ensures _ _ c.in-List.is in
+    let e = list_within h a.w.now (members a.set) c.resolve-c.result (c.resolve-c.ensures ms h) _ c.in-Ok.is p.bytes_small c.read-q.ensures f a.n ranges (f 0) c.accept-f.result c.accept-f.ensures _ _ c.in-Ok-f.is in
     replaced_list a.s.now a.b.now a.list.now c.put_in.new.list a.n _ ms a.w.now (members a.set) a.limit a.z c.put_in.result e
-    (list_gives h a.w.now (members a.set) c.resolve-c.result (c.resolve-c.ensures ms h) _ c.in-Macro.is p.bytes_small c.read-q.ensures f a.n ranges (f 0) c.accept-f.result c.accept-f.ensures _ _ c.in-List.is a.s.now c.put_in.new.list rest a.limit a.z c.put_in.result c.put_in.ensures)
+    (list_gives h a.w.now (members a.set) c.resolve-c.result (c.resolve-c.ensures ms h) _ c.in-Ok.is p.bytes_small c.read-q.ensures f a.n ranges (f 0) c.accept-f.result c.accept-f.ensures _ _ c.in-Ok-f.is a.s.now c.put_in.new.list rest a.limit a.z c.put_in.result c.put_in.ensures)
 
-pub returns-in-Refused-f : goal.returns-in-Refused-f
-returns-in-Refused-f c ms h =
+pub returns-in-Err-f : goal.returns-in-Err-f
+returns-in-Err-f c ms h =
     let a = c.args in
     let p = c.requires.1 in
     let f = items_from a.s.now a.b.now a.list.now a.n false in
     let ranges = c.accept-f.new.ranges in
     replaced_refused ms a.limit a.z _ _ _
-    (ap (replace ms a.w.now (members a.set)) (sym (items_all a.s.now a.b.now a.list.now a.n)) ∙ list_barred h a.w.now (members a.set) c.resolve-c.result (c.resolve-c.ensures ms h) _ c.in-Macro.is p.bytes_small c.read-q.ensures f a.n ranges (f 0) c.accept-f.result c.accept-f.ensures _ _ c.in-Refused-f.is)
+    (ap (replace ms a.w.now (members a.set)) (sym (items_all a.s.now a.b.now a.list.now a.n)) ∙ list_barred h a.w.now (members a.set) c.resolve-c.result (c.resolve-c.ensures ms h) _ c.in-Ok.is p.bytes_small c.read-q.ensures f a.n ranges (f 0) c.accept-f.result c.accept-f.ensures _ c.in-Err-f.is)

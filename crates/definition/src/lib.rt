@@ -292,7 +292,8 @@ pub fn list_at(s: &[u8], at: usize, stack: &mut [u8]) -> Result<(usize, usize), 
     Err(ReadError::IllFormed)
 }
 
-// Whether a formal of the list from `at` on has the name from `from` to before `end`.
+// Whether a formal of the list from `at` on has the name from `from` to before `end`. Here and below None says that the
+// lent bytes have no room for the brackets; the list is one that was read whole, so a formal of it is never ill-formed.
 fn named_later(s: &[u8], from: usize, end: usize, at: usize, stack: &mut [u8]) -> Option<bool>
     ensures { (fs : List Formal) (e : ℕ) → formals_at s.now at ≡ whole fs e → Settled stack.old (length s.now) None (verdict_of (named s.now (part s.now from end) fs)) result }
 {

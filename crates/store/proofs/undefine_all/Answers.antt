@@ -1,12 +1,9 @@
 -- `store::undefine_all` meets its contract: what is live is cleared, and the rest is blank already.
 -- Assumes nothing.
 use Rattle.store.proofs.Entries.{rows_fit}
-use Rattle.store.proofs.Additions.{live_is, live_fits}
+use Rattle.store.proofs.Additions.{live_is}
 use Rattle.store.proofs.Emptying.{emptied}
 use Rattle.store.proofs.undefine_all.Goals as goal
-
-pub clear-requires : goal.clear-requires
-clear-requires c = live_fits c.start_of-live.ensures c.requires.holds
 
 pub clear_records-requires : goal.clear_records-requires
 clear_records-requires c = rows_fit c.requires.holds

@@ -25,7 +25,8 @@ pub struct Stand {
     pub spot: Spot,
 }
 
-// The next stand, or the end: refused, or 0, with the place of 2 to 6.
+// The next stand, or the end: refused, or 0, with the place of 2 to 6. A Result would be no plainer: an end that nothing refuses is
+// no error.
 #[derive(Clone, Copy)]
 pub enum Turn {
     On(Stand),

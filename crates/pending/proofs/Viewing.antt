@@ -1,12 +1,10 @@
 -- What replacing asks of a token, by whether it is barred and by its bytes as they stand.
 -- Assumes nothing.
-use Prim.Native.Nat.{ℕ, suc}
+use Prim.Native.Nat.{ℕ}
 use mathlib.Core.Bool.{Bool, true, false, cond, ◌||◌}
 use mathlib.Core.List.{List}
 use mathlib.Core.Path.{◌≡◌, refl, ap}
-use native.Mathlib.Omega.{arith}
 use lib.Dec.{eqb}
-use borrow.Author.Tests.{ne_eqb}
 use lib.ListN.{get_or}
 use Rattle.lex.specs.Tokens.{Name, Escaped, Quote, Grave, Byte, String}
 use Rattle.lex.proofs.Tests.{true_false}
@@ -21,9 +19,6 @@ view_clear p e = rw e
 pub view_shut : (p : Pending) → eqb p.bar 0 ≡ false → view p ≡ bars p.bar p.at
 unfolding view
 view_shut p e = rw e
-
-pub view_barred : (p : Pending) (n : ℕ) → p.bar ≡ suc n → view p ≡ bars p.bar p.at
-view_barred p n e = view_shut p (ne_eqb p.bar 0 (λ z. omega arith))
 
 -- of a token that is no string the bytes are those that stand there
 pub bytes_raw : (s b : List ℕ) (p : Pend) → eqb p.kind String ≡ false → (pending_by s b p).bytes ≡ raw_of s b p

@@ -1,13 +1,12 @@
--- Past a grave accent name: never back before its end; and a definition as it was judged.
+-- Past a grave accent name: never back before its end.
 -- Assumes nothing.
 use Prim.Native.Nat.{ℕ, ◌≤◌}
 use mathlib.Core.Bool.{Bool}
 use mathlib.Core.List.{List, []}
-use mathlib.Core.Path.{◌≡◌, refl, sym, ap, subst, ◌∙◌}
+use mathlib.Core.Path.{◌≡◌, refl, subst}
 use native.Mathlib.Omega.{arith}
 use lib.Dec.{eqb}
 use Rattle.std.specs.Prelude.{Ok, Err}
-use Rattle.lex.specs.Faults.{fault}
 use Rattle.lex.specs.Tokens.{name_of}
 use Rattle.lex.specs.declared.Token.{Token}
 use Rattle.lex.proofs.Tests.{by_test}
@@ -18,28 +17,10 @@ use Rattle.directive.specs.declared.Form.{Form}
 use Rattle.directive.specs.declared.Form.TheVariants as form
 use Rattle.directive.proofs.Advance.{form_past}
 use Rattle.definition.specs.Definitions.{Macro, Definition, barred, bad, good, definition_at}
-use Rattle.definition.specs.Answers.{judged_of}
-use Rattle.definition.specs.declared.Judged.{Judged}
-use Rattle.definition.specs.declared.Judged.TheVariants as judged
 use Rattle.definition.proofs.Advance.{definition_past}
 use Rattle.conditions.specs.Grammar.{Condition, is_defined, condition_at}
 use Rattle.conditions.proofs.Parts.{condition_past}
 use Rattle.classify.specs.Words.{Past, by_form, by_definition, by_condition, takes_condition, past_directive, past_grave}
-
--- past a definition whose word ends at e, as it was judged
-abbrev pub by_judged : ℕ → ℕ → Judged → Past
-by_judged v e (judged.Barred n p) = Err (fault n p)
-by_judged v e (judged.Bad e') = Ok (e, v)
-by_judged v e (judged.Good e') = Ok (e', v)
-by_judged v e judged.Short = Ok (e, v)
-
-by-judged : (v e : ℕ) (d : Definition) → by_judged v e (judged_of d) ≡ by_definition v e d
-by-judged v e (barred n p) = refl
-by-judged v e (bad e') = refl
-by-judged v e (good m e') = refl
-
-pub judged_past : (v : ℕ) (s : List ℕ) (i : ℕ) (r x : Judged) → r ≡ judged_of (definition_at s i) → r ≡ x → by_judged v i x ≡ by_definition v i (definition_at s i)
-judged_past v s i r x a b = ap (by_judged v i) (sym b ∙ a) ∙ by-judged v i (definition_at s i)
 
 -- where to read on lies at i or later
 unfoldable pub OnPast : ℕ → Past → Type 0

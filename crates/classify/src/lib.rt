@@ -31,7 +31,8 @@ pub struct Classified {
     pub words: usize,
 }
 
-// How a text was read: the refusal, or 0, with its place, and the words written.
+// How a text was read: the refusal, or 0, with its place, and the words written. A number and no `Option`: C's answer has it so,
+// and the words are counted either way.
 #[derive(Clone, Copy)]
 pub struct Ended {
     pub number: usize,
@@ -110,12 +111,8 @@ fn past_condition(
 {
     match c {
         Ok((_, e)) => Ok((e, set)),
-        Err(f) => {
-            if f.number == 7 {
-                return Ok((at, set));
-            }
-            Err(f)
-        }
+        Err(f) if f.number == 7 => Ok((at, set)),
+        Err(f) => Err(f),
     }
 }
 

@@ -16,8 +16,7 @@ use Rattle.lex.proofs.Tests.{by_test, true_false}
 use Rattle.names.specs.Names.{FileWord, directive_of}
 use Rattle.storing.specs.Stored.{joined_from}
 use Rattle.storing.specs.Writing.{AddedBy}
-use Rattle.storing.specs.declared.Stored.{Stored}
-use Rattle.storing.specs.declared.Stored.TheVariants.{Short}
+use Rattle.std.proofs.Common.{Option, None}
 use Rattle.storing.proofs.Joining.{joined_length}
 use Rattle.pending.specs.declared.Pend.{Pend}
 use Rattle.pending.specs.Pending.{View, calls, bars, plain, is_blank, byte_view, grave_view, kind_view, is_call, view}
@@ -31,10 +30,10 @@ part_whole : (w : List ℕ) → part w 0 (length w) ≡ w
 part_whole w = take_all (length w - 0) w (omega arith)
 
 -- w, joined, is added behind the first byte of o, which has room for it
-module _ (o o' w : List ℕ) (long : length w + 3 ≤ length o) (r : Stored) where
-  pub joined_fits : {A : Type 0} → AddedBy r o o' 0 1 (joined_from false (part w 0 (length w))) → r ≡ Short → A
+module _ (o o' w : List ℕ) (long : length w + 3 ≤ length o) (r : Option ℕ) where
+  pub joined_fits : {A : Type 0} → AddedBy r o o' 0 1 (joined_from false (part w 0 (length w))) → r ≡ None → A
   joined_fits a e =
-      let d : length o < 1 + length (joined_from false w) = subst (λ (x : Stored). AddedBy x o o' 0 1 (joined_from false w)) e (rw part_whole at a) in
+      let d : length o < 1 + length (joined_from false w) = subst (λ (x : Option ℕ). AddedBy x o o' 0 1 (joined_from false w)) e (rw part_whole at a) in
       absurd (omega (arith, joined_length false w))
 
 -- ---- a token's bytes as they stand

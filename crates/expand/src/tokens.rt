@@ -11,7 +11,7 @@ ghost use Rattle.expand.specs.Standing.{outer, Within, Spells};
 use lex::{ESCAPED, ESCAPED_QUOTE, GRAVE, JOINER, QUOTE, STRING};
 use names::directive_of;
 use pending::{JOINED_FILE, Pend, SPACE, bytes_at, name_of};
-use storing::{Stored, put_byte, put_bytes, put_joined};
+use storing::{put_byte, put_bytes, put_joined};
 use text::part_of;
 use writing::{Spot, Wrote, write_whole};
 
@@ -20,10 +20,9 @@ fn join(w: &[u8], work: &mut [u8]) -> usize
     requires { length w.now + 3 ≤ length work.old }
     ensures { part work.new 1 result ≡ joined_from false w.now }
 {
-    let r = put_joined(w, 0, w.len(), work, 0, 1);
-    match r {
-        Stored::Upto(m) => m,
-        Stored::Short => 1,
+    match put_joined(w, 0, w.len(), work, 0, 1) {
+        Some(m) => m,
+        None => 1,
     }
 }
 
@@ -32,16 +31,9 @@ fn add_space(w: &[u8], work: &mut [u8]) -> usize
     requires { length w.now + 3 ≤ length work.old }
     ensures { part work.new 1 result ≡ w.now ++ (32 ∷ []) }
 {
-    let r = put_bytes(w, 0, w.len(), work, 0, 1);
-    match r {
-        Stored::Upto(m) => {
-            let t = put_byte(work, 0, m, 32);
-            match t {
-                Stored::Upto(k) => k,
-                Stored::Short => 1,
-            }
-        }
-        Stored::Short => 1,
+    match put_bytes(w, 0, w.len(), work, 0, 1) {
+        Some(m) => put_byte(work, 0, m, b' ').unwrap_or(1),
+        None => 1,
     }
 }
 

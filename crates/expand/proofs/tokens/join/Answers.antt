@@ -3,5 +3,5 @@
 use Rattle.expand.proofs.Spelling.{joined_fits}
 use Rattle.expand.proofs.tokens.join.Goals as goal
 
-pub returns-in-Short : goal.returns-in-Short
-returns-in-Short c = joined_fits _ _ c.args.w.now c.requires _ c.put_joined-r.ensures c.in-Short.is
+pub returns-in-None : goal.returns-in-None
+returns-in-None c = joined_fits _ _ c.args.w.now c.requires _ c.put_joined.ensures c.in-None.is

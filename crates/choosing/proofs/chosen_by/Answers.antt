@@ -1,9 +1,0 @@
--- `choosing::chosen_by` meets its contract.
--- Assumes nothing.
-use Rattle.choosing.proofs.chosen_by.Goals as goal
-
-pub returns-in-Some : goal.returns-in-Some
-returns-in-Some c = rw c.in-Some.is
-
-pub returns-in-None : goal.returns-in-None
-returns-in-None c = rw c.in-None.is

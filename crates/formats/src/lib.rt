@@ -19,7 +19,7 @@ pub const STDERR_FILENO: i32 = 2;
 pub fn least(a: usize, b: usize) -> usize
     ensures { (result ≤ a) × (result ≤ b) }
 {
-    if a < b { a } else { b }
+    a.min(b)
 }
 
 pub fn say(w: &[u8]) {
@@ -56,24 +56,17 @@ fn hex_digit(n: u8) -> u8 {
 // At most 256 bytes in hexadecimal.
 fn say_digits(w: &[u8]) {
     let mut digits = [0u8; 512];
-    let mut i = 0;
-    while i < w.len() {
-        if 256 <= i {
-            return;
-        }
-        digits[2 * i] = hex_digit(w[i] / 16);
-        digits[2 * i + 1] = hex_digit(w[i] % 16);
-        i += 1;
+    for (i, &b) in w.iter().take(256).enumerate() {
+        digits[2 * i] = hex_digit(b / 16);
+        digits[2 * i + 1] = hex_digit(b % 16);
     }
-    say(&digits[0..2 * i]);
+    say(&digits[..2 * w.len().min(256)]);
 }
 
 // Bytes in hexadecimal.
 pub fn say_hex(w: &[u8]) {
-    let mut i = 0;
-    while i < w.len() {
-        say_digits(part_of(w, i, i + 256));
-        i += 256;
+    for part in w.chunks(256) {
+        say_digits(part);
     }
 }
 
@@ -100,11 +93,8 @@ fn say_record(v: [u32; 4]) {
 
 // A line for each of the first `n` records.
 pub fn say_records(records: &[[u32; 4]], n: usize) {
-    let end = least(n, records.len());
-    let mut i = 0;
-    while i < end {
-        say_record(records[i]);
-        i += 1;
+    for &v in records.iter().take(n) {
+        say_record(v);
     }
 }
 
@@ -119,11 +109,8 @@ fn say_word(mark: &[u8], w: [u32; 3]) {
 // The number of words, and a line for each of them behind the mark: offset, length, 1 if reserved.
 pub fn say_words(mark: &[u8], words: &[[u32; 3]], n: usize) {
     say_count(b"words", n);
-    let end = least(n, words.len());
-    let mut i = 0;
-    while i < end {
-        say_word(mark, words[i]);
-        i += 1;
+    for &w in words.iter().take(n) {
+        say_word(mark, w);
     }
 }
 
@@ -152,19 +139,13 @@ pub fn say_pass(records: &[[u32; 4]], bytes: &[u8]) {
     }
 }
 
-fn wide(b: u8) -> usize
-    ensures { result < 256 }
-{
-    b as usize
-}
-
 fn four_of(w: &[u8]) -> usize
     ensures { result < 4294967296 }
 {
-    wide(peek(w, 0))
-        + wide(peek(w, 1)) * 256
-        + wide(peek(w, 2)) * 65536
-        + wide(peek(w, 3)) * 16777216
+    usize::from(peek(w, 0))
+        + usize::from(peek(w, 1)) * 256
+        + usize::from(peek(w, 2)) * 65536
+        + usize::from(peek(w, 3)) * 16777216
 }
 
 // Puts argument `i` at the start of `word`; its length, or 0 where it is missing or longer.

@@ -9,10 +9,8 @@ use lib.Dec.{ltb}
 use lib.ListN.{length, take, get_or, set, length-append, length-set, get_or-append}
 use lib.Seq.{get_or-set_same, get_or-set_other, get_or_at, get_or-take}
 use borrow.Author.Tests.{lt-ltb, le-ltb, eq-eqb, ne_eqb, ltb-true, ltb-false}
+use Rattle.std.proofs.Common.{Option, Some, None}
 use Rattle.text.specs.Bytes.{two_at}
-use Rattle.input.specs.declared.Parsed.{Parsed}
-use Rattle.input.specs.declared.Section.{Section}
-use Rattle.input.specs.declared.Section.TheVariants as section
 use Rattle.input.specs.Sections.{Rows, broken, rows, also, Row, misfit, fit, on_row, rows_at, name_at, body_at, start_at, entry_of, entries_of, Input, unformed, with_starts, with_bodies, with_names, input_of}
 use Rattle.input.specs.Filling.{NamesIn, RowsBy, NamesBy, BodiesIn, BodiesBy, StartsIn, StartsBy, FillsBoth, ParsedBy}
 
@@ -122,13 +120,13 @@ module _ {g : List ℕ → ℕ → Row} {R : List (List ℕ) → ℕ → List �
         to_next h ∙ ap (λ (r : Row). ahead f.done (on_row r (λ v e. also v (rows_at g (n - (k + 1)) s e)))) step
 
     -- a section that is read to its end
-    filling_done : n ≤ k → (P : List (List ℕ) → Type 0) → P f.done → RowsBy P (section.Upto i) (rows_at g n s at) (length s)
+    filling_done : n ≤ k → (P : List (List ℕ) → Type 0) → P f.done → RowsBy P (Some i) (rows_at g n s at) (length s)
     unfolding rows_at
     filling_done h P p =
         let q : n - k ≡ 0 = omega arith in
         let e : rows_at g n s at ≡ rows f.done i =
         f.rest ∙ ap (λ (m : ℕ). ahead f.done (rows_at g m s i)) q ∙ ap (λ (l : List (List ℕ)). rows l i) (append_none f.done) in
-        subst (λ (r : Rows). RowsBy P (section.Upto i) r (length s)) (sym e) (refl, f.within, p)
+        subst (λ (r : Rows). RowsBy P (Some i) r (length s)) (sym e) (refl, f.within, p)
 
 -- the three sections' loops
 
@@ -193,15 +191,15 @@ module _ {s : List ℕ} {at n : ℕ} {t₀ t : List (List ℕ)} {i k : ℕ} (f :
       filling_next f ((i + 1) ∷ z ∷ []) (i + 1 + z) (b ∷ c ∷ []) h l (omega arith) e (start_row e) (cc)
 
 module _ {s : List ℕ} {at n : ℕ} {t₀ t : List (List ℕ)} {i k : ℕ} (h : n ≤ k) where
-  pub names_done : Naming s at n t₀ t i k → NamesBy (section.Upto i) (rows_at name_at n s at) (length s) t
+  pub names_done : Naming s at n t₀ t i k → NamesBy (Some i) (rows_at name_at n s at) (length s) t
   names_done f =
       let m = f.many in
       filling_done f h (λ vs. NamesIn vs (length vs) t) (record { count = refl; row = λ j a b. f.row j (omega arith) b })
 
-  pub bodies_done : Bodying s at n t₀ t i k → BodiesBy (section.Upto i) (rows_at body_at n s at) (length s) t₀ t
+  pub bodies_done : Bodying s at n t₀ t i k → BodiesBy (Some i) (rows_at body_at n s at) (length s) t₀ t
   bodies_done f = let m = f.many in let l = f.long in filling_done f h (λ ws. BodiesIn ws t₀ t) (λ j a b. f.row j (omega arith) (omega arith))
 
-  pub starts_done : Starting s at n t₀ t i k → StartsBy (section.Upto i) (rows_at start_at n s at) (length s) t
+  pub starts_done : Starting s at n t₀ t i k → StartsBy (Some i) (rows_at start_at n s at) (length s) t
   starts_done f = let m = f.many in filling_done f h (λ us. StartsIn us t) (λ j a b. f.row j (omega arith) b)
 
 -- a section of n rows has n rows
@@ -232,7 +230,7 @@ record Whole (P : List (List ℕ) → Type 0) (r : Rows) (i last : ℕ) : Type 0
   within : i ≤ last
   holds : P vs
 
-whole : (P : List (List ℕ) → Type 0) (r : Rows) (i last : ℕ) → RowsBy P (section.Upto i) r last → Whole P r i last
+whole : (P : List (List ℕ) → Type 0) (r : Rows) (i last : ℕ) → RowsBy P (Some i) r last → Whole P r i last
 whole P broken i last h = absurd h
 whole P (rows vs e) i last h = record { vs = vs; shape = ap (rows vs) h.0; within = h.1; holds = h.2 }
 
@@ -255,6 +253,10 @@ entry_front : (e v w : List ℕ) → take 3 e ≡ v → entry_of e w ≡ entry_o
 entry_front e v w q =
     rw (← q, get_or-take 3 e 0 0 (omega arith), get_or-take 3 e 1 0 (omega arith), get_or-take 3 e 2 0 (omega arith))
 
+-- no section that is not of the form leaves an input that is
+pub unparsed : {r : Option (ℕ × ℕ)} {i : Input} (t u : List (List ℕ)) → r ≡ None → i ≡ unformed → ParsedBy r i t u
+unparsed {r} {i} t u e h = subst (λ (q : Option (ℕ × ℕ)). ParsedBy q i t u) (sym e) h
+
 -- what `parse_rest` tells of the input, by what it meets
 
 pub rest_short : (s : List ℕ) (at n : ℕ) (vs : List (List ℕ)) → length s < at + 2 → with_names s n (rows vs at) ≡ unformed
@@ -266,13 +268,13 @@ rest_other s at n vs h p q = rw (le-ltb (length s) (at + 2) h, ← p, ne_eqb _ n
 to_bodies : (s : List ℕ) (at n : ℕ) (vs : List (List ℕ)) {z : ℕ} → at + 2 ≤ length s → z ≡ two_at s at → z ≡ n → with_names s n (rows vs at) ≡ with_bodies s vs (rows_at body_at n s (at + 2))
 to_bodies s at n vs {z} h p q = rw (le-ltb (length s) (at + 2) h, ← p, eq-eqb z n q)
 
-module _ (s : List ℕ) (at n : ℕ) (t t' : List (List ℕ)) {z : ℕ} (h : at + 2 ≤ length s) (p : z ≡ two_at s at) (q : z ≡ n) {r : Section} (b : BodiesBy r (rows_at body_at n s (at + 2)) (length s) t t') where
-  pub rest_unbodied : r ≡ section.Broken → (vs : List (List ℕ)) → with_names s n (rows vs at) ≡ unformed
-  rest_unbodied e vs = to_bodies s at n vs h p q ∙ ap (with_bodies s vs) (subst (λ (x : Section). BodiesBy x (rows_at body_at n s (at + 2)) (length s) t t') e b)
+module _ (s : List ℕ) (at n : ℕ) (t t' : List (List ℕ)) {z : ℕ} (h : at + 2 ≤ length s) (p : z ≡ two_at s at) (q : z ≡ n) {r : Option ℕ} (b : BodiesBy r (rows_at body_at n s (at + 2)) (length s) t t') where
+  pub rest_unbodied : r ≡ None → (vs : List (List ℕ)) → with_names s n (rows vs at) ≡ unformed
+  rest_unbodied e vs = to_bodies s at n vs h p q ∙ ap (with_bodies s vs) (subst (λ (x : Option ℕ). BodiesBy x (rows_at body_at n s (at + 2)) (length s) t t') e b)
 
-  module _ {j : ℕ} (e : r ≡ section.Upto j) where
+  module _ {j : ℕ} (e : r ≡ Some j) where
     the_bodies : Whole (λ ws. BodiesIn ws t t') (rows_at body_at n s (at + 2)) j (length s)
-    the_bodies = whole _ _ _ _ (subst (λ (x : Section). BodiesBy x (rows_at body_at n s (at + 2)) (length s) t t') e b)
+    the_bodies = whole _ _ _ _ (subst (λ (x : Option ℕ). BodiesBy x (rows_at body_at n s (at + 2)) (length s) t t') e b)
 
     pub rest_within : j ≤ length s
     rest_within = the_bodies.within
@@ -283,13 +285,13 @@ module _ (s : List ℕ) (at n : ℕ) (t t' : List (List ℕ)) {z : ℕ} (h : at 
     to_starts : {m : ℕ} → j + 2 ≤ length s → m ≡ two_at s j → (vs : List (List ℕ)) → with_names s n (rows vs at) ≡ with_starts s vs the_bodies.vs (rows_at start_at m s (j + 2))
     to_starts l g vs = to_bodies s at n vs h p q ∙ ap (with_bodies s vs) the_bodies.shape ∙ rw (le-ltb (length s) (j + 2) l, ← g)
 
-    module _ (u' : List (List ℕ)) {m : ℕ} (l : j + 2 ≤ length s) (g : m ≡ two_at s j) {v : Section} (d : StartsBy v (rows_at start_at m s (j + 2)) (length s) u') where
-      pub rest_unstarted : v ≡ section.Broken → (vs : List (List ℕ)) → with_names s n (rows vs at) ≡ unformed
-      rest_unstarted x vs = to_starts l g vs ∙ ap (with_starts s vs the_bodies.vs) (subst (λ (y : Section). StartsBy y (rows_at start_at m s (j + 2)) (length s) u') x d)
+    module _ (u' : List (List ℕ)) {m : ℕ} (l : j + 2 ≤ length s) (g : m ≡ two_at s j) {v : Option ℕ} (d : StartsBy v (rows_at start_at m s (j + 2)) (length s) u') where
+      pub rest_unstarted : v ≡ None → (vs : List (List ℕ)) → with_names s n (rows vs at) ≡ unformed
+      rest_unstarted x vs = to_starts l g vs ∙ ap (with_starts s vs the_bodies.vs) (subst (λ (y : Option ℕ). StartsBy y (rows_at start_at m s (j + 2)) (length s) u') x d)
 
-      module _ {i : ℕ} (x : v ≡ section.Upto i) where
+      module _ {i : ℕ} (x : v ≡ Some i) where
         the_starts : Whole (λ us. StartsIn us u') (rows_at start_at m s (j + 2)) i (length s)
-        the_starts = whole _ _ _ _ (subst (λ (y : Section). StartsBy y (rows_at start_at m s (j + 2)) (length s) u') x d)
+        the_starts = whole _ _ _ _ (subst (λ (y : Option ℕ). StartsBy y (rows_at start_at m s (j + 2)) (length s) u') x d)
 
         pub rest_longer : (i ≡ length s → ⊥) → (vs : List (List ℕ)) → with_names s n (rows vs at) ≡ unformed
         rest_longer y vs = to_starts l g vs ∙ ap (with_starts s vs the_bodies.vs) the_starts.shape ∙ rw (ne_eqb i (length s) y)
@@ -333,18 +335,18 @@ to_names : (s : List ℕ) {n : ℕ} → 2 ≤ length s → n ≡ two_at s 0 → 
 unfolding input_of
 to_names s h p = rw (le-ltb (length s) 2 h, ← p)
 
-module _ (s : List ℕ) (t : List (List ℕ)) {n : ℕ} (h : 2 ≤ length s) (p : n ≡ two_at s 0) {r : Section} (b : NamesBy r (rows_at name_at n s 2) (length s) t) where
-  pub parse_unnamed : r ≡ section.Broken → input_of s ≡ unformed
-  parse_unnamed e = to_names s h p ∙ ap (with_names s n) (subst (λ (x : Section). NamesBy x (rows_at name_at n s 2) (length s) t) e b)
+module _ (s : List ℕ) (t : List (List ℕ)) {n : ℕ} (h : 2 ≤ length s) (p : n ≡ two_at s 0) {r : Option ℕ} (b : NamesBy r (rows_at name_at n s 2) (length s) t) where
+  pub parse_unnamed : r ≡ None → input_of s ≡ unformed
+  parse_unnamed e = to_names s h p ∙ ap (with_names s n) (subst (λ (x : Option ℕ). NamesBy x (rows_at name_at n s 2) (length s) t) e b)
 
-  module _ {i : ℕ} (e : r ≡ section.Upto i) where
+  module _ {i : ℕ} (e : r ≡ Some i) where
     the_names : Whole (λ vs. NamesIn vs (length vs) t) (rows_at name_at n s 2) i (length s)
-    the_names = whole _ _ _ _ (subst (λ (x : Section). NamesBy x (rows_at name_at n s 2) (length s) t) e b)
+    the_names = whole _ _ _ _ (subst (λ (x : Option ℕ). NamesBy x (rows_at name_at n s 2) (length s) t) e b)
 
     pub parse_within : i ≤ length s
     parse_within = the_names.within
 
-    pub parse_whole : (w : Parsed) (t' u' : List (List ℕ)) → ((vs : List (List ℕ)) → NamesIn vs n t → ParsedBy w (with_names s n (rows vs i)) t' u') → ParsedBy w (input_of s) t' u'
+    pub parse_whole : (w : Option (ℕ × ℕ)) (t' u' : List (List ℕ)) → ((vs : List (List ℕ)) → NamesIn vs n t → ParsedBy w (with_names s n (rows vs i)) t' u') → ParsedBy w (input_of s) t' u'
     parse_whole w t' u' f =
         let N = the_names in
         let c : length N.vs ≡ n = counted (subst (Counted n) N.shape (rows_counted name_at n s 2)) in

@@ -6,22 +6,14 @@ ghost use Rattle.std.specs.Prelude.{◌≤◌};
 
 use flatten::Flattened;
 use formats::{
-    STDOUT_FILENO, least, say, say_bytes, say_classified, say_count, say_number, say_pass,
-    say_records, say_refusal, say_words,
+    STDOUT_FILENO, say, say_bytes, say_classified, say_count, say_number, say_pass, say_records,
+    say_refusal, say_words,
 };
-use input::Parsed;
 use settings::Settings;
 use text::part_of;
 
-// What flatten answered; or the input is not of the form.
-#[derive(Clone, Copy)]
-enum Handled {
-    Flat(Flattened),
-    Unformed,
-}
-
-// Flattens an input of at most `most` bytes. The table has room for one file more than are taken, and the start macros for
-// one more.
+// Flattens an input of at most `most` bytes, if it is of the form. The table has room for one file more than are taken, and
+// the start macros for one more.
 fn flatten_input(
     s: &[u8],
     most: usize,
@@ -32,24 +24,18 @@ fn flatten_input(
     map: &mut [u32],
     records: &mut [[u32; 4]],
     bytes: &mut [u8],
-) -> Handled
+) -> Option<Flattened>
     requires { most ≤ 1000000 }
 {
     if most < s.len() {
-        return Handled::Unformed;
+        return None;
     }
     let mut table = [[0u32; 5]; 65];
     let mut starts = [[0u32; 2]; 257];
-    let p = input::parse(s, &mut table, &mut starts);
-    match p {
-        Parsed::Broken => Handled::Unformed,
-        Parsed::Whole(n, m) => {
-            let files = &table[0..n];
-            let names = &starts[0..m];
-            let r = flatten::flatten(s, files, root, names, set, limit, text, map, records, bytes);
-            Handled::Flat(r)
-        }
-    }
+    let (n, m) = input::parse(s, &mut table, &mut starts)?;
+    let files = &table[..n];
+    let names = &starts[..m];
+    Some(flatten::flatten(s, files, root, names, set, limit, text, map, records, bytes))
 }
 
 // The length of the text and the text, with a newline behind it where its last is missing.
@@ -77,11 +63,8 @@ fn print_entry(v: u32, placed: bool) {
 }
 
 fn print_entries(map: &[u32], n: usize, placed: bool) {
-    let end = least(n, map.len());
-    let mut i = 0;
-    while i < end {
-        print_entry(map[i], placed);
-        i += 1;
+    for &v in map.iter().take(n) {
+        print_entry(v, placed);
     }
 }
 
@@ -110,8 +93,8 @@ pub fn print_input(
 ) {
     let a = flatten_input(s, 60000, 0, 3, 100000, text, map, records, bytes);
     match a {
-        Handled::Unformed => say_refusal(b"refused", 1, 0, 0, 0),
-        Handled::Flat(r) => {
+        None => say_refusal(b"refused", 1, 0, 0, 0),
+        Some(r) => {
             if r.number != 0 {
                 say_refusal(b"refused", r.number, r.file, r.line, r.byte);
                 return;
@@ -257,7 +240,7 @@ pub fn dump_input(
         bytes,
     );
     match a {
-        Handled::Unformed => say(b"format\n"),
-        Handled::Flat(r) => print_outcome(r, set, text, map, records, bytes, words),
+        None => say(b"format\n"),
+        Some(r) => print_outcome(r, set, text, map, records, bytes, words),
     }
 }

@@ -1,4 +1,2 @@
-pub mod Moves
 pub mod Splices
-pub mod Gaps
 pub mod Rows

@@ -1,42 +1,19 @@
 -- The laws of `spliced`: how it is made by moves, copies and blanks, and what it does to a packed buffer. Assumes nothing.
-use mathlib.Core.Path.{◌≡◌, sym, ap, ◌∙◌}
+use mathlib.Core.Path.{◌≡◌, refl, sym, ap, ◌∙◌}
 use mathlib.Core.List.{List, [], ◌∷◌, ◌++◌, append_assoc}
 use Prim.Native.Nat.{ℕ, zero, suc, ◌+◌, ◌-◌, ◌≤◌, ◌<◌, max}
-use native.Mathlib.Nat.{zero-sub, sub-zero, suc-sub-suc, add-zero}
-use native.Mathlib.Numerals.{add-one}
 use native.Mathlib.Omega.{arith}
 use lib.ListN.{length, take, drop, set, replicate, length-append, length-drop, length-replicate, replicate-append-replicate}
 use lib.Seq.{paste, paste-zero, length-paste, take_all, take_at, drop_at, take-length, take-take, take-append-le, drop-append-add, drop-drop, length-take-le, set_split}
+use Rattle.std.proofs.lemmas.List.{drop-replicate}
+use Rattle.std.proofs.lemmas.List.Edits.{paste_all}
 use Rattle.packed.specs.Splicing.{live_after, spliced}
-
--- what a shorter part leaves over, where the live elements then end, and where what was live ended
-module _ (i old n live : ℕ) (h : i + old ≤ live) (g : n ≤ old) where
-  left_over : live - (live - (old - n)) ≡ old - n
-  left_over = omega arith
-
-  left_over_live : live - (live - old + n) ≡ old - n
-  left_over_live = omega arith
-
-  shorter_end : live - (old - n) ≡ i + n + (live - (i + old))
-  shorter_end = omega arith
-
-  live_end : i + n + (live - (i + old)) + (old - n) ≡ live
-  live_end = omega arith
-
-  shorter_max : max live (live - old + n) ≡ live
-  shorter_max = omega arith
 
 -- the blanks of a packed buffer, where a part of length f is replaced by n elements
 blanks_after : (live f n k : ℕ) → f ≤ live → n ≤ f + k → live - (live - f + n) + (k - (max live (live - f + n) - live)) ≡ k + f - n
 blanks_after live f n k h g = omega arith
 
 module _ {A : Type 0} where
-  -- what is left of equal elements
-  drop_replicate : (j k : ℕ) (z : A) → drop j (replicate k z) ≡ replicate (k - j) z
-  drop_replicate zero k z = rw sub-zero
-  drop_replicate (suc j) zero z = rw zero-sub
-  drop_replicate (suc j) (suc k) z = rw (suc-sub-suc, drop_replicate j k z)
-
   -- a move of the tail, and then a copy before it
   moved_copied : (l x y xs : List A) (i old t : ℕ) → i + old + t ≤ length l → i + length xs + t ≤ length l
       → x ≡ paste l (i + length xs) (drop (i + old) l) t → y ≡ paste x i xs (length xs)
@@ -51,43 +28,57 @@ module _ {A : Type 0} where
       let q : drop (i + n) x ≡ m ++ r = ap (drop (i + n)) s ∙ drop_at (take (i + n) l) (m ++ r) (i + n) lt in
       ey ∙ rw (p, q, take-length) (append_assoc (take i l) xs (m ++ r))
 
-  -- the code's way where there are more elements than before: the tail moves to the right
-  pub spliced_grown : (blank : A) (l x y xs : List A) (i old live : ℕ) → i + old ≤ live → live ≤ length l → live_after old xs live ≤ length l → old ≤ length xs
+  -- the code's way: the tail moves, the new elements come before it, and what is left over at its end is blanked
+  pub spliced_made : (blank : A) (l x y w xs : List A) (i old live : ℕ) → i + old ≤ live → live ≤ length l → live_after old xs live ≤ length l
       → x ≡ paste l (i + length xs) (drop (i + old) l) (live - (i + old)) → y ≡ paste x i xs (length xs)
-      → y ≡ spliced blank l i old xs live
-  unfolding spliced
-  spliced_grown blank l x y xs i old live h k m g ex ey =
-      let z : live - live_after old xs live ≡ 0 = omega arith in
-      let e : max live (live_after old xs live) ≡ i + length xs + (live - (i + old)) = omega arith in
-      moved_copied l x y xs i old (live - (i + old)) (omega arith) (omega arith) ex ey ∙ rw (z, e)
-
-  -- and where there are not more: it moves to the left, and what is left over at its end is blanked
-  pub spliced_shrunk : (blank : A) (l x y w xs : List A) (i old live : ℕ) → i + old ≤ live → live ≤ length l → length xs ≤ old
-      → x ≡ paste l (i + length xs) (drop (i + old) l) (live - (i + old)) → y ≡ paste x i xs (length xs)
-      → w ≡ paste y (live - (old - length xs)) (replicate (live - (live - (old - length xs))) blank) (live - (live - (old - length xs)))
+      → w ≡ paste y (live_after old xs live) (replicate (live - live_after old xs live) blank) (live - live_after old xs live)
       → w ≡ spliced blank l i old xs live
   unfolding spliced
-  spliced_shrunk blank l x y w xs i old live h k g ex ey ew =
+  spliced_made blank l x y w xs i old live h k g ex ey ew =
       let n : ℕ = length xs in
       let t : ℕ = live - (i + old) in
-      let c : ℕ = old - n in
+      let e : ℕ = live_after old xs live in
+      let c : ℕ = live - e in
       let m : List A = take t (drop (i + old) l) in
-      let r : List A = drop (i + n + t) l in
       let f : List A = take i l ++ (xs ++ m) in
       let lm : length m ≡ t = length-take-le t (drop (i + old) l) (rw length-drop (omega arith)) in
       let li : length (take i l) ≡ i = length-take-le i l (omega arith) in
-      let lf : length f ≡ i + n + t = simp length-append (omega arith) in
-      let s : y ≡ f ++ r = moved_copied l x y xs i old t (omega arith) (omega arith) ex ey ∙ simp append_assoc in
-      let p : take (i + n + t) y ≡ f = ap (take (i + n + t)) s ∙ take_at f r (i + n + t) lf in
-      let q : drop (i + n + t + c) y ≡ drop (i + n + t + c) l =
-      ap (drop (i + n + t + c)) s ∙ ap (λ (j : ℕ). drop (j + c) (f ++ r)) (sym lf) ∙ drop-append-add f r c ∙ drop-drop c (i + n + t) l in
+      let lf : length f ≡ e = simp length-append (omega arith) in
+      let d : i + n + t ≡ e = omega arith in
+      let s : y ≡ f ++ drop e l =
+      moved_copied l x y xs i old t (omega arith) (omega arith) ex ey ∙ ap (λ (j : ℕ). take i l ++ (xs ++ (m ++ drop j l))) d ∙ simp append_assoc in
+      let p : take e y ≡ f = ap (take e) s ∙ take_at f (drop e l) e lf in
+      let q : drop (e + c) y ≡ drop (e + c) l =
+      ap (drop (e + c)) s ∙ ap (λ (j : ℕ). drop (j + c) (f ++ drop e l)) (sym lf) ∙ drop-append-add f (drop e l) c ∙ drop-drop c e l in
       let v : take c (replicate c blank) ≡ replicate c blank = take_all c (replicate c blank) (omega (arith, length-replicate c blank)) in
-      let e₁ : live - (live - c) ≡ c = left_over i old n live h g in
-      let e₂ : live - c ≡ i + n + t = shorter_end i old n live h g in
-      let e₃ : live - live_after old xs live ≡ c = left_over_live i old n live h g in
-      let e₄ : max live (live_after old xs live) ≡ live = shorter_max i old n live h g in
-      let e₅ : i + n + t + c ≡ live = live_end i old n live h g in
-      ew ∙ rw (e₁, e₂, p, q, v, e₃, e₄, e₅) (simp append_assoc)
+      let z : max live e ≡ e + c = omega arith in
+      ew ∙ rw (p, q, v, z) (simp append_assoc)
+
+  -- a store is the copy of one element
+  set_paste : (l : List A) (i : ℕ) (v : A) → i < length l → set l i v ≡ paste l i (v ∷ []) (suc zero)
+  set_paste l i v h = let e : suc i ≡ i + suc zero = omega arith in set_split l i v h ∙ ap (λ (j : ℕ). take i l ++ (v ∷ drop j l)) e ∙ sym (paste_all l i (v ∷ []) (suc zero) refl)
+
+  -- nothing is left over where one element comes in
+  pub spliced_in : (blank v : A) (l x : List A) (i live : ℕ) → i ≤ live → live < length l
+      → x ≡ paste l (i + 1) (drop i l) (live - i) → set x i v ≡ spliced blank l i 0 (v ∷ []) live
+  spliced_in blank v l x i live h k ex =
+      let n : length x ≡ length l = ap length ex ∙ length-paste l (i + 1) (drop i l) (live - i) (omega arith) (rw length-drop (omega arith)) in
+      let none : live - live_after 0 (v ∷ []) live ≡ 0 = omega arith in
+      let e₀ : i + 0 ≡ i = omega arith in
+      let e₁ : i + suc zero ≡ i + 1 = omega arith in
+      spliced_made blank l x (set x i v) (set x i v) (v ∷ []) i 0 live (omega arith) (omega arith) (omega arith) (rw (e₁, e₀) ex) (set_paste x i v (omega arith))
+      (rw none (paste-zero (set x i v) (live_after 0 (v ∷ []) live) []))
+
+  -- and one is left over where one goes
+  pub spliced_out : (blank : A) (l x : List A) (i live : ℕ) → i < live → live ≤ length l
+      → x ≡ paste l i (drop (i + 1) l) (live - (i + 1)) → set x (live - 1) blank ≡ spliced blank l i 1 [] live
+  spliced_out blank l x i live h k ex =
+      let n : length x ≡ length l = ap length ex ∙ length-paste l i (drop (i + 1) l) (live - (i + 1)) (omega arith) (rw length-drop (omega arith)) in
+      let e₀ : i + 0 ≡ i = omega arith in
+      let one : live - live_after {A = A} 1 [] live ≡ suc zero = omega arith in
+      let last : live_after {A = A} 1 [] live ≡ live - 1 = omega arith in
+      spliced_made blank l x x (set x (live - 1) blank) [] i 1 live (omega arith) (omega arith) (omega arith) (rw e₀ ex) (paste-zero x i [])
+      (rw (one, last) (set_paste x (live - 1) blank (omega arith)))
 
   -- its length
   pub length_spliced : (blank : A) (l xs : List A) (i old live : ℕ) → i + old ≤ live → live ≤ length l → live_after old xs live ≤ length l
@@ -117,5 +108,5 @@ module _ {A : Type 0} where
       let t₁ : take i l ≡ a = ap (take i) m₁ ∙ take_at a (f ++ (b ++ z)) i (sym ei) in
       let t₂ : drop (i + old) l ≡ b ++ z = ap (drop (i + old)) m₂ ∙ drop_at (a ++ f) (b ++ z) (i + old) laf in
       let t₄ : drop (max live (live_after old xs live)) l ≡ replicate (k - j) blank =
-      ap (drop (max live (live_after old xs live))) el ∙ ap (λ (u : ℕ). drop u ((a ++ (f ++ b)) ++ z)) e ∙ drop-append-add (a ++ (f ++ b)) z j ∙ drop_replicate j k blank in
+      ap (drop (max live (live_after old xs live))) el ∙ ap (λ (u : ℕ). drop u ((a ++ (f ++ b)) ++ z)) e ∙ drop-append-add (a ++ (f ++ b)) z j ∙ drop-replicate j k blank in
       rw (t₁, t₂, t₃, t₄) (rw (replicate-append-replicate, g) (simp append_assoc))

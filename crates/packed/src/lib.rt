@@ -15,52 +15,12 @@ pub struct Record {
     pub size: usize,
 }
 
-// Moves the `n` bytes at `from` to `to`, which is not behind them.
-fn move_left(b: &mut [u8], to: usize, from: usize, n: usize)
-    requires { (to ≤ from) × (from + n ≤ length b.old) }
-    ensures { b.new ≡ paste b.old to (drop from b.old) n }
-{
-    let mut j = 0;
-    while j < n {
-        b[to + j] = b[from + j];
-        j += 1;
-    }
-}
-
-// Moves the `n` bytes at `from` to `to`, which is not before them.
-fn move_right(b: &mut [u8], to: usize, from: usize, n: usize)
-    requires { (from ≤ to) × (to + n ≤ length b.old) }
-    ensures { b.new ≡ paste b.old to (drop from b.old) n }
-{
-    let mut j = n;
-    while 0 < j {
-        j -= 1;
-        b[to + j] = b[from + j];
-    }
-}
-
-// Copies all of `src` to `at`.
-fn copy_to(b: &mut [u8], at: usize, src: &[u8])
-    requires { at + length src.now ≤ length b.old }
-    ensures { b.new ≡ paste b.old at src.now (length src.now) }
-{
-    let mut j = 0;
-    while j < src.len() {
-        b[at + j] = src[j];
-        j += 1;
-    }
-}
-
 // Clears the bytes from `from` to before `to`.
 pub fn clear(b: &mut [u8], from: usize, to: usize)
     requires { to ≤ length b.old }
     ensures { b.new ≡ paste b.old from (replicate (to - from) 0) (to - from) }
 {
-    let mut i = from;
-    while i < to {
-        b[i] = 0;
-        i += 1;
-    }
+    b[from.min(to)..to].fill(0);
 }
 
 // Puts `form` in the place of the `old` bytes at `at`, of which `live` are live.
@@ -68,16 +28,10 @@ pub fn splice(b: &mut [u8], at: usize, old: usize, form: &[u8], live: usize)
     requires { (at + old ≤ live) × (live ≤ length b.old) × (live_after old form.now live ≤ length b.old) }
     ensures { b.new ≡ spliced 0 b.old at old form.now live }
 {
-    let n = form.len();
-    let tail = live - (at + old);
-    if n <= old {
-        move_left(b, at + n, at + old, tail);
-        copy_to(b, at, form);
-        clear(b, live - (old - n), live);
-        return;
-    }
-    move_right(b, at + n, at + old, tail);
-    copy_to(b, at, form);
+    let end = at + form.len();
+    b.copy_within(at + old..live, end);
+    b[at..end].copy_from_slice(form);
+    clear(b, live - old + form.len(), live);
 }
 
 fn wide(x: u32) -> usize
@@ -136,11 +90,7 @@ fn moved_start(x: u32, more: usize, less: usize) -> u32
     requires { more ≤ 65536 }
     ensures { result ≡ cut (x + more - less) }
 {
-    let y = x as usize + more;
-    if y < less {
-        return 0;
-    }
-    cut_to_32(y - less)
+    cut_to_32((x as usize + more).saturating_sub(less))
 }
 
 fn moved(v: [u32; 4], more: usize, less: usize) -> [u32; 4]
@@ -160,10 +110,8 @@ pub fn shift(records: &mut [[u32; 4]], from: usize, to: usize, more: usize, less
     requires { (to ≤ length records.old) × (more ≤ 65536) }
     ensures { records.new ≡ moved_from more less from to records.old }
 {
-    let mut i = from;
-    while i < to {
+    for i in from..to {
         records[i] = moved(records[i], more, less);
-        i += 1;
     }
 }
 
@@ -172,11 +120,7 @@ pub fn insert(records: &mut [[u32; 4]], at: usize, r: Record, count: usize)
     requires { (at ≤ count) × (count < length records.old) }
     ensures { records.new ≡ spliced blank_record records.old at 0 (numbers_of r ∷ []) count }
 {
-    let mut i = count;
-    while at < i {
-        records[i] = records[i - 1];
-        i -= 1;
-    }
+    records.copy_within(at..count, at + 1);
     records[at] = numbers_of(r);
 }
 
@@ -185,11 +129,7 @@ pub fn remove(records: &mut [[u32; 4]], at: usize, count: usize)
     requires { (at < count) × (count ≤ length records.old) }
     ensures { records.new ≡ spliced blank_record records.old at 1 [] count }
 {
-    let mut i = at + 1;
-    while i < count {
-        records[i - 1] = records[i];
-        i += 1;
-    }
+    records.copy_within(at + 1..count, at);
     records[count - 1] = [0u32; 4];
 }
 
@@ -206,9 +146,5 @@ pub fn clear_records(records: &mut [[u32; 4]], from: usize, to: usize)
     requires { to ≤ length records.old }
     ensures { records.new ≡ paste records.old from (replicate (to - from) blank_record) (to - from) }
 {
-    let mut i = from;
-    while i < to {
-        records[i] = [0u32; 4];
-        i += 1;
-    }
+    records[from.min(to)..to].fill([0u32; 4]);
 }

@@ -29,15 +29,14 @@ use Rattle.expand.proofs.Calling.{formals_of, macro_in}
 use Rattle.expand.proofs.Replacing.{stacked_drop, items_list}
 use Rattle.expand.proofs.Naming.{usage_view}
 use Rattle.passing.specs.Passing.{or_next, formals_of as formals, bar_of, found_fault, usage_fault, fault_of, text_fault}
-use Rattle.pass.specs.declared.Verdict.{Verdict}
-use Rattle.pass.specs.declared.Verdict.TheVariants as verdict
+use Rattle.std.proofs.Common.{Result, Ok, Err}
 use Rattle.pass.specs.Judging.{verdict_of}
 
-pub verdict_good : (f : Option ℕ) → verdict.Good ≡ verdict_of f → f ≡ none
+pub verdict_good : (f : Option ℕ) → Ok tt ≡ verdict_of f → f ≡ none
 verdict_good none e = refl
 verdict_good (some n) e = let z : ◌≡◌ {A = ℕ} 0 1 = cc in absurd (omega arith)
 
-pub verdict_bad : (f : Option ℕ) (n : ℕ) → verdict.Bad n ≡ verdict_of f → f ≡ some n
+pub verdict_bad : (f : Option ℕ) (n : ℕ) → Err n ≡ verdict_of f → f ≡ some n
 verdict_bad none n e = let z : ◌≡◌ {A = ℕ} 0 1 = cc in absurd (omega arith)
 verdict_bad (some m) n e = cc
 
@@ -52,7 +51,7 @@ module _ (w : List ℕ) (ps : List Pending) {ms : List Macro} {b : List ℕ} {r 
   unfolding usage_fault
   usage_by g a = ap (λ (x : Result ℕ ℕ). found_fault x ms ps) (sym e ∙ a)
 
-  pub usage_missing : (i : ℕ) → f ≡ Err i → verdict.Bad 13 ≡ verdict_of (usage_fault ms w ps)
+  pub usage_missing : (i : ℕ) → f ≡ Err i → Err 13 ≡ verdict_of (usage_fault ms w ps)
   usage_missing i a = sym (ap verdict_of (usage_by (Err i) a))
 
   -- the list of macro i, whose record is q, was sought
@@ -65,12 +64,12 @@ module _ (w : List ℕ) (ps : List Pending) {ms : List Macro} {b : List ℕ} {r 
     sought_by v z =
         subst (λ (x : Result (ℕ × ℕ) Fault). AcceptedBy x (list_for (formals_of (macro_at ms i)) ps) g last ranges) z (s _ _ (macro_in h small i (found_below w h e i a) k))
 
-    pub usage_good : (l : ℕ × ℕ) → o ≡ Ok l → verdict.Good ≡ verdict_of (usage_fault ms w ps)
+    pub usage_good : (l : ℕ × ℕ) → o ≡ Ok l → Ok tt ≡ verdict_of (usage_fault ms w ps)
     usage_good l z =
         let y : Accepts (list_for (formals_of (macro_at ms i)) ps) g last ranges l.0 l.1 = sought_by (Ok l) z in
         sym (ap verdict_of (bar_is ∙ ap bar_of y.shape))
 
-    pub usage_bad : (e : Fault) → o ≡ Err e → verdict.Bad e.number ≡ verdict_of (usage_fault ms w ps)
+    pub usage_bad : (e : Fault) → o ≡ Err e → Err e.number ≡ verdict_of (usage_fault ms w ps)
     usage_bad e z = sym (ap verdict_of (bar_is ∙ ap bar_of (sought_by (Err e) z)))
 
 -- ---- a token
@@ -102,21 +101,21 @@ module _ (b : List ℕ) (l : List (List ℕ)) (n k : ℕ) (h : k < n) (g : n ≤
       items_list b b l n (k + 1) (omega arith) ∙ i
 
   module _ (ms : List Macro) {t : Bool} (c : t ≡ is_call (view (pending_by b b x))) where
-    pub token_usage : t ≡ true → {w : List ℕ} → w ≡ (pending_by b b x).name → {r : Verdict} → r ≡ verdict_of (usage_fault ms w (items_from b b l n false (k + 1)))
+    pub token_usage : t ≡ true → {w : List ℕ} → w ≡ (pending_by b b x).name → {r : Result (Unit {0}) ℕ} → r ≡ verdict_of (usage_fault ms w (items_from b b l n false (k + 1)))
         → r ≡ verdict_of (fault_of (view p) ms ps)
     token_usage a {w} d {r} v =
         v
         ∙ ap verdict_of (ap₂ (λ (y : List ℕ) (qs : List Pending). usage_fault ms y qs) d rest_is
         ∙ ap (λ (y : View). fault_of y ms ps) (sym (usage_view b b x (sym c ∙ a)) ∙ ap view token_is))
 
-    pub token_other : t ≡ false → verdict.Good ≡ verdict_of (fault_of (view p) ms ps)
+    pub token_other : t ≡ false → Ok tt ≡ verdict_of (fault_of (view p) ms ps)
     token_other a =
         sym (ap verdict_of (ap (λ (y : Pending). fault_of (view y) ms ps) (sym token_is) ∙ not_usage (view (pending_by b b x)) none _ (sym c ∙ a)))
 
 -- ---- a text
 
 -- of which token k, and what follows it, was judged to be v
-module _ (b : List ℕ) (l : List (List ℕ)) (n k : ℕ) (ms : List Macro) (h : k < n) {v : Verdict}
+module _ (b : List ℕ) (l : List (List ℕ)) (n k : ℕ) (ms : List Macro) (h : k < n) {v : Result (Unit {0}) ℕ}
     (j : (p : Pending) (ps : List Pending) → drop k (stacked b b l n) ≡ p ∷ ps → v ≡ verdict_of (fault_of (view p) ms ps)) where
   abbrev step : Option ℕ
   step = fault_of (view (pending_by b b (pend_of (get_or l (n - 1 - k) blank)))) ms (stacked b b l (n - (k + 1)))
@@ -128,12 +127,12 @@ module _ (b : List ℕ) (l : List (List ℕ)) (n k : ℕ) (ms : List Macro) (h :
   unfolding text_fault
   from_here = ap (text_fault ms) (stacked_at b b l n k h)
 
-  pub text_good : v ≡ verdict.Good → text_fault ms (drop k (stacked b b l n)) ≡ text_fault ms (drop (k + 1) (stacked b b l n))
+  pub text_good : v ≡ Ok tt → text_fault ms (drop k (stacked b b l n)) ≡ text_fault ms (drop (k + 1) (stacked b b l n))
   text_good e =
       from_here ∙ ap (λ (f : Option ℕ). or_next f (text_fault ms (stacked b b l (n - (k + 1))))) (verdict_good step (sym e ∙ judged))
       ∙ ap (text_fault ms) (sym (stacked_drop b b l n (k + 1) (omega arith)))
 
-  pub text_bad : (c : ℕ) → v ≡ verdict.Bad c → text_fault ms (drop k (stacked b b l n)) ≡ some c
+  pub text_bad : (c : ℕ) → v ≡ Err c → text_fault ms (drop k (stacked b b l n)) ≡ some c
   text_bad c e = from_here ∙ ap (λ (f : Option ℕ). or_next f (text_fault ms (stacked b b l (n - (k + 1))))) (verdict_bad step c (sym e ∙ judged))
 
 -- no token is left

@@ -24,8 +24,7 @@ use Rattle.expand.proofs.Calling.{macro_in}
 use Rattle.reach.specs.Reaching.{set_of, has_bit}
 use Rattle.reach.proofs.Joining.{row_read}
 use Rattle.passing.specs.Passing.{or_next, text_fault, tokens_of, text_at, reaches, macro_fault, yes, fault, pass_at, pass_from, pass_of}
-use Rattle.pass.specs.declared.Verdict.{Verdict}
-use Rattle.pass.specs.declared.Verdict.TheVariants as verdict
+use Rattle.std.proofs.Common.{Result, Ok, Err}
 use Rattle.pass.specs.Judging.{verdict_of, Unfolds}
 use Rattle.pass.proofs.Faults.{verdict_good, verdict_bad}
 
@@ -72,14 +71,14 @@ module _ (ms : List Macro) (rows : List (List ℕ)) (i : ℕ) where
   fault_by = or_next (text_fault ms (text_at ms i)) (recursive (has_bit rows i i))
 
   -- its text, of the tokens ts, was judged to be v
-  module _ (ts : List Pending) (t : ts ≡ text_at ms i) {v : Verdict} (e : v ≡ verdict_of (text_fault ms ts)) where
+  module _ (ts : List Pending) (t : ts ≡ text_at ms i) {v : Result (Unit {0}) ℕ} (e : v ≡ verdict_of (text_fault ms ts)) where
     judged : v ≡ verdict_of (text_fault ms (text_at ms i))
     judged = e ∙ ap (λ (x : List Pending). verdict_of (text_fault ms x)) t
 
-    pub macro_bad : (c : ℕ) → v ≡ verdict.Bad c → verdict.Bad c ≡ verdict_of fault_by
+    pub macro_bad : (c : ℕ) → v ≡ Err c → Err c ≡ verdict_of fault_by
     macro_bad c z = sym (ap (λ (x : Option ℕ). verdict_of (or_next x (recursive (has_bit rows i i)))) (verdict_bad (text_fault ms (text_at ms i)) c (sym z ∙ judged)))
 
-    pub macro_by : v ≡ verdict.Good → {s : MacroSet} → s ≡ set_of (get_or rows i []) → {x : Bool} → x ≡ elem i (members s) → (y : Bool) → x ≡ y
+    pub macro_by : v ≡ Ok tt → {s : MacroSet} → s ≡ set_of (get_or rows i []) → {x : Bool} → x ≡ elem i (members s) → (y : Bool) → x ≡ y
         → verdict_of (recursive y) ≡ verdict_of fault_by
     unfolding has_bit
     macro_by z {s} f {x} g y d =
@@ -88,7 +87,7 @@ module _ (ms : List Macro) (rows : List (List ℕ)) (i : ℕ) where
 
   -- ---- the answer from macro i on, of n, whose row says what it reaches and whose verdict is v
 
-  module _ (n : ℕ) (l : i < n) (g : has_bit rows i i ≡ reaches ms (length ms) i i) {v : Verdict} (e : v ≡ verdict_of fault_by) where
+  module _ (n : ℕ) (l : i < n) (g : has_bit rows i i ≡ reaches ms (length ms) i i) {v : Result (Unit {0}) ℕ} (e : v ≡ verdict_of fault_by) where
     fault_is : v ≡ verdict_of (macro_fault ms i)
     unfolding macro_fault
     fault_is = e ∙ ap (λ (x : Bool). verdict_of (or_next (text_fault ms (text_at ms i)) (recursive x))) g
@@ -99,10 +98,10 @@ module _ (ms : List Macro) (rows : List (List ℕ)) (i : ℕ) where
         let a : n - i ≡ suc (n - (i + 1)) = omega arith in
         ap (pass_from ms i) a ∙ ap (λ (j : ℕ). pass_at (macro_fault ms i) i (pass_from ms j (n - (i + 1)))) (sym (add-one i))
 
-    pub pass_next : v ≡ verdict.Good → pass_from ms i (n - i) ≡ pass_from ms (i + 1) (n - (i + 1))
+    pub pass_next : v ≡ Ok tt → pass_from ms i (n - i) ≡ pass_from ms (i + 1) (n - (i + 1))
     pass_next z = from_here ∙ ap (λ (x : Option ℕ). pass_at x i (pass_from ms (i + 1) (n - (i + 1)))) (verdict_good (macro_fault ms i) (sym z ∙ fault_is))
 
-    pub pass_here : (c : ℕ) → v ≡ verdict.Bad c → pass_from ms i (n - i) ≡ fault i c
+    pub pass_here : (c : ℕ) → v ≡ Err c → pass_from ms i (n - i) ≡ fault i c
     pass_here c z = from_here ∙ ap (λ (x : Option ℕ). pass_at x i (pass_from ms (i + 1) (n - (i + 1)))) (verdict_bad (macro_fault ms i) c (sym z ∙ fault_is))
 
 -- all the macros

@@ -1,18 +1,16 @@
 -- The texts of macros as references, and what the code says of them.
 -- Assumes nothing.
-use Rattle.std.specs.Prelude.{ℕ, ◌-◌, ◌+◌, ◌<◌, ◌≤◌, ◌≡◌, List, length, drop}
+use Rattle.std.specs.Prelude.{ℕ, Result, Ok, Err, ◌-◌, ◌+◌, ◌≤◌, ◌≡◌, List, length, drop}
 use Rattle.std.proofs.Math.Option.{Option, none, some}
 use Rattle.text.specs.Bytes.{part}
 use Rattle.store.specs.Buffers.{Stored}
 use Rattle.packed.specs.declared.Record.{Record}
 use Rattle.pending.specs.References.{stacked}
 use Rattle.passing.specs.Passing.{tokens_of}
-use Rattle.pass.specs.declared.Verdict.{Verdict}
-use Rattle.pass.specs.declared.Verdict.TheVariants as verdict
 
-abbrev pub verdict_of : Option ℕ → Verdict
-verdict_of none = verdict.Good
-verdict_of (some n) = verdict.Bad n
+abbrev pub verdict_of : Option ℕ → Result (Unit {0}) ℕ
+verdict_of none = Ok tt
+verdict_of (some n) = Err n
 
 -- the last n references of l' stand for the tokens of the text of q, the first one last
 pub record Unfolds (b : List ℕ) (q : Record) (l l' : List (List ℕ)) (n : ℕ) : Type 0 where

@@ -35,13 +35,6 @@ pub enum Answer {
     Foreign,
 }
 
-// Nothing bars it, or this refusal.
-#[derive(Clone, Copy)]
-pub enum Verdict {
-    Good,
-    Bad(usize),
-}
-
 // Puts the tokens of a macro's text at the end of `list`, the first one last; how many they are.
 fn unfold_text(b: &[u8], q: Record, list: &mut [[u64; 9]]) -> usize
     requires { (length b.now ≤ length list.old) × (length b.now ≤ 65536) × Small q }
@@ -61,7 +54,7 @@ fn unfold_text(b: &[u8], q: Record, list: &mut [[u64; 9]]) -> usize
     k
 }
 
-// The usage of `w`, whose list is sought from token `at` on: 13, 14, 15.
+// The fault of the usage of `w`, whose list is sought from token `at` on: 13, 14, 15.
 fn usage_fault(
     b: &[u8],
     records: &[[u32; 4]],
@@ -72,7 +65,7 @@ fn usage_fault(
     at: usize,
     ranges: &mut [[usize; 4]],
     stack: &mut [u8],
-) -> Verdict
+) -> Result<(), usize>
     requires { Kept b.now records.now macros × Listable b.now list.now n (last_of b.now n false) at stack.old }
     ensures { (ms : List Macro) → Holds ms b.now records.now macros → result ≡ verdict_of (usage_fault ms w.now (items_from b.now b.now list.now n false at)) }
 {
@@ -81,15 +74,15 @@ fn usage_fault(
         Ok(i) => {
             let r = accept(b, b, read(records, i), list, n, false, at, ranges, stack);
             match r {
-                Ok(_) => Verdict::Good,
-                Err(f) => Verdict::Bad(f.number),
+                Ok(_) => Ok(()),
+                Err(f) => Err(f.number),
             }
         }
-        Err(_) => Verdict::Bad(13),
+        Err(_) => Err(13),
     }
 }
 
-// Token `k` of the text whose tokens are the first `n` of `list`.
+// The fault of token `k` of the text whose tokens are the first `n` of `list`.
 fn token_fault(
     b: &[u8],
     records: &[[u32; 4]],
@@ -99,7 +92,7 @@ fn token_fault(
     k: usize,
     ranges: &mut [[usize; 4]],
     stack: &mut [u8],
-) -> Verdict
+) -> Result<(), usize>
     requires { Kept b.now records.now macros × Listable b.now list.now n (last_of b.now n false) k stack.old × (k < n) }
     ensures { (ms : List Macro) (p : Pending) (ps : List Pending) → Holds ms b.now records.now macros → drop k (stacked b.now b.now list.now n) ≡ p ∷ ps → result ≡ verdict_of (fault_of (view p) ms ps) }
 {
@@ -108,7 +101,7 @@ fn token_fault(
         let w = name_of(b, b, p);
         return usage_fault(b, records, macros, w, list, n, k + 1, ranges, stack);
     }
-    Verdict::Good
+    Ok(())
 }
 
 // The first bad usage of a text.
@@ -120,24 +113,14 @@ fn text_fault(
     n: usize,
     ranges: &mut [[usize; 4]],
     stack: &mut [u8],
-) -> Verdict
+) -> Result<(), usize>
     requires { Kept b.now records.now macros × Listable b.now list.now n (last_of b.now n false) 0 stack.old }
     ensures { (ms : List Macro) → Holds ms b.now records.now macros → result ≡ verdict_of (text_fault ms (stacked b.now b.now list.now n)) }
 {
-    let mut k = 0;
-    while k < n {
-        let r = token_fault(b, records, macros, list, n, k, ranges, stack);
-        match r {
-            Verdict::Good => {
-                k += 1;
-                continue;
-            }
-            Verdict::Bad(e) => {
-                return Verdict::Bad(e);
-            }
-        }
+    for k in 0..n {
+        token_fault(b, records, macros, list, n, k, ranges, stack)?;
     }
-    Verdict::Good
+    Ok(())
 }
 
 // The macros `uses`, and the one that the token names if it is a usage.
@@ -166,10 +149,8 @@ fn uses_in(b: &[u8], records: &[[u32; 4]], macros: usize, list: &[[u64; 9]], n: 
     ensures { (ms : List Macro) (j : ℕ) → Holds ms b.now records.now macros → elem j (members result) ≡ elem j (uses_in ms (stacked b.now b.now list.now n)) }
 {
     let mut uses = sets::empty();
-    let mut k = 0;
-    while k < n {
-        uses = with_use(b, records, macros, list[k], uses);
-        k += 1;
+    for &v in &list[..n] {
+        uses = with_use(b, records, macros, v, uses);
     }
     uses
 }
@@ -201,10 +182,8 @@ fn fill_rows(
     requires { Kept b.now records.now macros × (65536 ≤ length list.old) × (256 ≤ length rows.old) }
     ensures { (ms : List Macro) (i j : ℕ) → Holds ms b.now records.now macros → i < macros → has_bit rows.new i j ≡ elem j (uses ms i) }
 {
-    let mut i = 0;
-    while i < macros {
+    for i in 0..macros {
         rows[i] = row_of(uses_of(b, records, macros, i, list));
-        i += 1;
     }
 }
 
@@ -218,22 +197,17 @@ fn macro_fault(
     ranges: &mut [[usize; 4]],
     stack: &mut [u8],
     rows: &[[u64; 4]],
-) -> Verdict
+) -> Result<(), usize>
     requires { Kept b.now records.now macros × (i < macros) × Works list.old ranges.old stack.old × (256 ≤ length rows.now) }
     ensures { (ms : List Macro) → Holds ms b.now records.now macros → result ≡ verdict_of (or_next (text_fault ms (text_at ms i)) (cond (has_bit rows.now i i) (some 16) none)) }
 {
     let n = unfold_text(b, read(records, i), list);
     let a = list.len() - n;
-    let r = text_fault(b, records, macros, &list[a..], n, ranges, stack);
-    match r {
-        Verdict::Good => {
-            if sets::member(set_of(rows[i]), i as u64) {
-                return Verdict::Bad(16);
-            }
-            Verdict::Good
-        }
-        Verdict::Bad(e) => Verdict::Bad(e),
+    text_fault(b, records, macros, &list[a..], n, ranges, stack)?;
+    if sets::member(set_of(rows[i]), i as u64) {
+        return Err(16);
     }
+    Ok(())
 }
 
 // The first macro at fault.
@@ -249,17 +223,9 @@ fn first_fault(
     requires { Kept b.now records.now macros × Works list.old ranges.old stack.old × (256 ≤ length rows.now) }
     ensures { (ms : List Macro) → Holds ms b.now records.now macros → ((i : ℕ) → i < macros → has_bit rows.now i i ≡ reaches ms (length ms) i i) → result ≡ answer_of (pass_of ms) }
 {
-    let mut i = 0;
-    while i < macros {
-        let r = macro_fault(b, records, macros, i, list, ranges, stack, rows);
-        match r {
-            Verdict::Good => {
-                i += 1;
-                continue;
-            }
-            Verdict::Bad(e) => {
-                return Answer::Fault(i, e);
-            }
+    for i in 0..macros {
+        if let Err(e) = macro_fault(b, records, macros, i, list, ranges, stack, rows) {
+            return Answer::Fault(i, e);
         }
     }
     Answer::Yes

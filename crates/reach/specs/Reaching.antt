@@ -1,6 +1,6 @@
 -- Rows of bits and the ways along them.
 -- Assumes nothing.
-use Rattle.std.specs.Prelude.{ℕ, ◌<◌, ◌≤◌, Bool, true, false, cond, ◌||◌, ◌&&◌, ◌≡◌, List, [], ◌∷◌, eqb, length, get_or}
+use Rattle.std.specs.Prelude.{ℕ, ◌<◌, ◌≤◌, Bool, true, ◌||◌, ◌&&◌, ◌≡◌, List, [], ◌∷◌, length, get_or}
 use Rattle.sets.specs.Sets.{elem, members}
 use Rattle.sets.specs.declared.MacroSet.{MacroSet}
 

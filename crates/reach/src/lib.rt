@@ -53,10 +53,8 @@ fn join_rows(rows: &mut [[u64; 4]], n: usize, k: usize)
     requires { (n ≤ length rows.old) × (k < n) × (n ≤ 256) }
     ensures { JoinedAll rows.old rows.new n k }
 {
-    let mut i = 0;
-    while i < n {
+    for i in 0..n {
         join_row(rows, i, k);
-        i += 1;
     }
 }
 
@@ -65,9 +63,7 @@ pub fn close_rows(rows: &mut [[u64; 4]], n: usize)
     requires { Fits rows.old n }
     ensures { Closed rows.old rows.new n }
 {
-    let mut k = 0;
-    while k < n {
+    for k in 0..n {
         join_rows(rows, n, k);
-        k += 1;
     }
 }

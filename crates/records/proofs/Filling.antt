@@ -45,7 +45,7 @@ more_blanks : (i : ℕ) (xs : List Record) → replicate i no_record ++ (no_reco
 more_blanks zero xs = refl
 more_blanks (suc i) xs = ap (λ (zs : List Record). no_record ∷ zs) (more_blanks i xs)
 
-cleared_are : (xs : List Record) (i : ℕ) → i ≤ length xs → cleared xs i ≡ replicate i no_record ++ drop i xs
+pub cleared_are : (xs : List Record) (i : ℕ) → i ≤ length xs → cleared xs i ≡ replicate i no_record ++ drop i xs
 unfolding cleared
 cleared_are xs zero l = refl
 cleared_are xs (suc i) l =
@@ -57,7 +57,7 @@ end_inserted : (xs : List Record) (i : ℕ) (r : Record) → i < length xs → i
 unfolding inserted
 end_inserted xs i r l = let z : i - i ≡ 0 = omega arith in rw z (sym (set_split xs i r l))
 
-filled_are : (xs : List Record) (t : Table) (n : ℕ) → n ≤ length xs → filled xs t n ≡ up_to n (record_at t) ++ drop n xs
+pub filled_are : (xs : List Record) (t : Table) (n : ℕ) → n ≤ length xs → filled xs t n ≡ up_to n (record_at t) ++ drop n xs
 unfolding filled up_to
 filled_are xs t zero l = refl
 filled_are xs t (suc n) l =

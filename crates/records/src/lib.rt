@@ -37,6 +37,18 @@ struct Kept {
     answer: Flattened,
 }
 
+// The zero record.
+fn no_record() -> Record
+    ensures { result ≡ no_record }
+{
+    Record {
+        start: 0,
+        name_length: 0,
+        text_start: 0,
+        text_length: 0,
+    }
+}
+
 pub fn read(records: &[Record], i: usize) -> Record
     requires { i < length records.now }
     ensures { result ≡ get_or records.now i no_record }
@@ -49,12 +61,7 @@ pub fn insert(records: &mut [Record], n: usize, at: usize, r: Record)
     requires { (n < length records.old) × (at ≤ n) }
     ensures { records.new ≡ inserted records.old n at r }
 {
-    let mut i = n;
-    while at < i {
-        let j = i - 1;
-        records[i] = records[j];
-        i = j;
-    }
+    records.copy_within(at..n, at + 1);
     records[at] = r;
 }
 
@@ -63,19 +70,8 @@ pub fn remove(records: &mut [Record], n: usize, at: usize)
     requires { (n ≤ length records.old) × (at < n) }
     ensures { records.new ≡ removed records.old n at no_record }
 {
-    let last = n - 1;
-    let mut i = at;
-    while i < last {
-        let j = i + 1;
-        records[i] = records[j];
-        i = j;
-    }
-    records[last] = Record {
-        start: 0,
-        name_length: 0,
-        text_start: 0,
-        text_length: 0,
-    };
+    records.copy_within(at + 1..n, at);
+    records[n - 1] = no_record();
 }
 
 // The record at `i` of a table.
@@ -86,31 +82,21 @@ fn record_at(t: Table, i: usize) -> Record
     t.rows[i]
 }
 
-// Removes the last of the first `n` records again and again.
+// The first `n` records become zero, as if the last of them were removed again and again.
 fn clear(records: &mut [Record], n: usize)
     requires { n ≤ length records.old }
     ensures { records.new ≡ cleared records.old n }
 {
-    let mut i = n;
-    while 0 < i {
-        let j = i - 1;
-        remove(records, i, j);
-        i = j;
-    }
+    records[..n].fill(no_record());
 }
 
-// Inserts each record of `t` behind those before it.
+// The records of `t` become the first ones, as if each were inserted behind those before it.
 fn fill(records: &mut [Record], t: Table)
     requires { (t.length ≤ length records.old) × (t.length ≤ 256) }
     ensures { records.new ≡ filled records.old t t.length }
 {
     let n = t.length;
-    let mut i = 0;
-    while i < n {
-        let r = record_at(t, i);
-        insert(records, i, i, r);
-        i += 1;
-    }
+    records[..n].copy_from_slice(&t.rows[..n]);
 }
 
 // At most 256: more macros there cannot be.
@@ -154,11 +140,8 @@ fn load(records: &[Record]) -> Table
 {
     let n = at_most(records.len());
     let mut t = no_table();
-    let mut i = 0;
-    while i < n {
-        let r = read(records, i);
-        t = with_row(t, i, r);
-        i += 1;
+    for i in 0..n {
+        t = with_row(t, i, read(records, i));
     }
     t
 }
@@ -174,13 +157,9 @@ fn still_zero(zero: bool, r: Record) -> bool
 fn rest_is_zero(records: &[Record], from: usize) -> bool
     ensures { result ≡ all_none (drop from records.now) }
 {
-    let n = records.len();
     let mut zero = true;
-    let mut i = from;
-    while i < n {
-        let r = read(records, i);
-        zero = still_zero(zero, r);
-        i += 1;
+    for i in from..records.len() {
+        zero = still_zero(zero, read(records, i));
     }
     zero
 }
@@ -204,10 +183,8 @@ fn table_of(rows: &[[u32; 4]], n: usize) -> Table
     ensures { result ≡ tabled (λ i. of_row (get_or rows.now i [])) n }
 {
     let mut t = no_table();
-    let mut i = 0;
-    while i < n {
+    for i in 0..n {
         t = with_row(t, i, record_of(rows, i));
-        i += 1;
     }
     t
 }
@@ -217,12 +194,9 @@ fn write_rows(t: Table, rows: &mut [[u32; 4]])
     requires { (t.length ≤ length rows.old) × (t.length ≤ 256) }
     ensures { rows.new ≡ rowed rows.old t t.length }
 {
-    let n = t.length;
-    let mut i = 0;
-    while i < n {
+    for i in 0..t.length {
         let r = record_at(t, i);
         rows[i] = [r.start, r.name_length, r.text_start, r.text_length];
-        i += 1;
     }
 }
 

@@ -5,7 +5,6 @@ ghost use Rattle.std.specs.Prelude.{◌≤◌, length};
 
 use flatten::{Flattened, flatten};
 use formats::{STDERR_FILENO, STDIN_FILENO, STDOUT_FILENO};
-use input::Parsed;
 use text::part_of;
 
 fn write_answer(r: Flattened, text: &[u8]) {
@@ -27,12 +26,11 @@ fn run(s: &[u8])
     let mut map = [0u32; 65536];
     let mut records = [[0u32; 4]; 256];
     let mut bytes = [0u8; 65536];
-    let p = input::parse(s, &mut table, &mut starts);
-    match p {
-        Parsed::Broken => {
+    match input::parse(s, &mut table, &mut starts) {
+        None => {
             io::write_all(STDERR_FILENO, b"speed: the input is not of the form\n");
         }
-        Parsed::Whole(n, m) => {
+        Some((n, m)) => {
             let r = flatten(
                 s,
                 &table[0..n],

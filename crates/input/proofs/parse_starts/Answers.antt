@@ -1,24 +1,20 @@
 use mathlib.Core.Path.{◌∙◌}
-use Rattle.input.proofs.Filling.{filling_none, starts_broken, starts_next, starts_past, starts_done}
+use Rattle.input.proofs.Filling.{starts_broken, starts_next, starts_past, starts_done}
 use Rattle.input.proofs.parse_starts.Goals as goal
-
-pub loop-k-init : goal.loop-k-init
-loop-k-init c = filling_none c.requires.1
-
-pub shape_of-starts-then-s-i : goal.shape_of-starts-then-s-i
-shape_of-starts-then-s-i c = c.loop-k.invariant.long
+use Rattle.input.proofs.parse_starts.Goals.{then-k-starts, else-k-starts}
 
 pub returns-then-s-i : goal.returns-then-s-i
-returns-then-s-i c = starts_broken c.loop-k.invariant c.loop-k-test.true (c.wide-size.ensures.0 ∙ c.peek.ensures) c.if-s-i.true
-
-pub loop-k-preserved-then-k-starts : goal.loop-k-preserved-then-k-starts
-loop-k-preserved-then-k-starts c = starts_next c.loop-k.invariant c.loop-k-test.true (c.wide-size.ensures.0 ∙ c.peek.ensures) c.if-s-i.false c.if-k-starts.true c.to_u32.ensures c.to_u32-then-k-starts.ensures
+returns-then-s-i c = starts_broken c.loop-k.invariant c.loop-k-test.true (c.from-size.ensures ∙ c.peek.ensures) c.if-s-i.true
 
 pub loop-k-preserved : goal.loop-k-preserved
-loop-k-preserved c = starts_past c.loop-k.invariant c.loop-k-test.true (c.wide-size.ensures.0 ∙ c.peek.ensures) c.if-s-i.false c.if-k-starts.false
-
-pub shape_of-starts : goal.shape_of-starts
-shape_of-starts c = c.loop-k.invariant.long
+loop-k-preserved c =
+    let f = c.loop-k.invariant in
+    let h = c.loop-k-test.true in
+    let q = c.from-size.ensures ∙ c.peek.ensures in
+    elim c.if-k-starts.branch [
+      | then-k-starts w ↦ rw w.starts-is (starts_next f h q c.if-s-i.false w.if-k-starts.true w.to_u32.ensures w.to_u32-then-k-starts.ensures)
+      | else-k-starts w ↦ rw w.starts-is (starts_past f h q c.if-s-i.false w.if-k-starts.false)
+    ]
 
 pub returns : goal.returns
 returns c = starts_done c.loop-k-test.false c.loop-k.invariant

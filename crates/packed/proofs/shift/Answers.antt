@@ -1,14 +1,8 @@
-use mathlib.Core.Path.{refl, sym, ◌∙◌}
+use mathlib.Core.Path.{sym, ◌∙◌}
 use native.Mathlib.Omega.{arith}
 use lib.ListN.{length-set}
 use Rattle.packed.proofs.Rows.{from_next, from_out}
 use Rattle.packed.proofs.shift.Goals as goal
-
-pub loop-i-init : goal.loop-i-init
-loop-i-init c = (refl, refl)
-
-pub moved-requires : goal.moved-requires
-moved-requires c = c.requires.1
 
 pub loop-i-preserved : goal.loop-i-preserved
 loop-i-preserved c = (from_next _ _ c.loop-i.i c.args.to c.loop-i.records _ c.loop-i-test.true (omega arith) c.moved.ensures ∙ c.loop-i.invariant.0, length-set c.loop-i.records c.loop-i.i c.moved.result ∙ c.loop-i.invariant.1)

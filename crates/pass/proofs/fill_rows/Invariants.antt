@@ -1,6 +1,6 @@
 -- `pass::fill_rows` meets its contract. The invariant: the rows before `i` have what these macros use.
 -- Assumes nothing.
-use Prim.Native.Nat.{ℕ, ◌-◌, ◌<◌}
+use Prim.Native.Nat.{ℕ, ◌<◌}
 use mathlib.Core.List.{List}
 use mathlib.Core.Path.{◌≡◌}
 use lib.ListN.{length}
@@ -16,6 +16,3 @@ invariant-loop-i l =
     (length l.list ≡ length l.initial.list)
     × (length l.rows ≡ length l.initial.rows)
     × ((ms : List Macro) (a j : ℕ) → Holds ms l.b l.records l.macros → a < l.i → has_bit l.rows a j ≡ elem j (uses ms a))
-
-abbrev pub decreases-loop-i : goal.decreases-loop-i
-decreases-loop-i l = l.macros - l.i

@@ -16,6 +16,3 @@ invariant-loop-i l =
     × (length l.ranges ≡ length l.initial.ranges)
     × (length l.stack ≡ length l.initial.stack)
     × ((ms : List Macro) → Holds ms l.b l.records l.macros → ((a : ℕ) → a < l.macros → has_bit l.rows a a ≡ reaches ms (length ms) a a) → pass_of ms ≡ pass_from ms l.i (l.macros - l.i))
-
-abbrev pub decreases-loop-i : goal.decreases-loop-i
-decreases-loop-i l = l.macros - l.i

@@ -1,45 +1,23 @@
-use mathlib.Core.Path.{refl, sym, ap, ◌∙◌}
+use mathlib.Core.Path.{sym, ap, ◌∙◌}
 use native.Mathlib.Omega.{arith}
+use Rattle.std.proofs.lemmas.Result.{err_from_is_err_and}
 use Rattle.pass.specs.Judging.{verdict_of}
 use Rattle.pass.proofs.Faults.{text_good, text_bad, text_end}
 use Rattle.pass.proofs.text_fault.Goals as goal
 
-pub loop-k-init : goal.loop-k-init
-loop-k-init c = (omega arith, refl, refl, λ ms h. refl)
-
-pub token_fault-r-requires : goal.token_fault-r-requires
-token_fault-r-requires c =
-    let l = c.requires.1 in (
-      c.requires.0,
-      record { filled = l.filled; small = l.small; inside = c.loop-k.invariant.0; brackets = omega (arith, l.brackets, c.loop-k.invariant.2) },
-      c.loop-k-test.true,
-    )
-
-pub overflow_add-k : goal.overflow_add-k
-overflow_add-k c = omega (arith, c.requires.1.small)
-
 pub loop-k-preserved : goal.loop-k-preserved
 loop-k-preserved c = (
   omega arith,
-  c.token_fault-r.auto.ranges ∙ c.loop-k.invariant.1,
-  c.token_fault-r.auto.stack ∙ c.loop-k.invariant.2,
-  λ ms h. c.loop-k.invariant.3 ms h ∙ text_good c.args.b.now c.args.list.now c.args.n c.loop-k.k ms c.loop-k-test.true (λ p ps e. c.token_fault-r.ensures ms p ps h e) c.in-Good.is,
+  c.token_fault.auto.ranges ∙ c.loop-k.invariant.1,
+  c.token_fault.auto.stack ∙ c.loop-k.invariant.2,
+  λ ms h. c.loop-k.invariant.3 ms h ∙ text_good c.args.b.now c.args.list.now c.args.n c.loop-k.k ms c.loop-k-test.true (λ p ps e. c.token_fault.ensures ms p ps h e) c.in_ok-token_fault.was,
 )
 
-pub shape_of-ranges-in-Bad : goal.shape_of-ranges-in-Bad
-shape_of-ranges-in-Bad c = c.token_fault-r.auto.ranges ∙ c.loop-k.invariant.1
-
-pub shape_of-stack-in-Bad : goal.shape_of-stack-in-Bad
-shape_of-stack-in-Bad c = c.token_fault-r.auto.stack ∙ c.loop-k.invariant.2
-
-pub returns-in-Bad : goal.returns-in-Bad
-returns-in-Bad c ms h = sym (ap verdict_of (c.loop-k.invariant.3 ms h ∙ text_bad c.args.b.now c.args.list.now c.args.n c.loop-k.k ms c.loop-k-test.true (λ p ps e. c.token_fault-r.ensures ms p ps h e) _ c.in-Bad.is))
-
-pub shape_of-ranges : goal.shape_of-ranges
-shape_of-ranges c = c.loop-k.invariant.1
-
-pub shape_of-stack : goal.shape_of-stack
-shape_of-stack c = c.loop-k.invariant.2
+pub returns-in_err-token_fault : goal.returns-in_err-token_fault
+returns-in_err-token_fault c ms h =
+    let p = err_from_is_err_and c.from_residual.result c.from_residual.ensures.1 in
+    rw (p.1, p.2)
+    (sym (ap verdict_of (c.loop-k.invariant.3 ms h ∙ text_bad c.args.b.now c.args.list.now c.args.n c.loop-k.k ms c.loop-k-test.true (λ p ps e. c.token_fault.ensures ms p ps h e) _ c.in_err-token_fault.was)))
 
 pub returns : goal.returns
 returns c ms h =

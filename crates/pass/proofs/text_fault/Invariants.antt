@@ -1,6 +1,6 @@
 -- `pass::text_fault` meets its contract. The invariant: no token before `k` is at fault.
 -- Assumes nothing.
-use Prim.Native.Nat.{◌-◌, ◌≤◌}
+use Prim.Native.Nat.{◌≤◌}
 use mathlib.Core.List.{List}
 use mathlib.Core.Path.{◌≡◌}
 use lib.ListN.{length, drop}
@@ -16,6 +16,3 @@ invariant-loop-k l =
     × (length l.ranges ≡ length l.initial.ranges)
     × (length l.stack ≡ length l.initial.stack)
     × ((ms : List Macro) → Holds ms l.b l.records l.macros → text_fault ms (stacked l.b l.b l.list l.n) ≡ text_fault ms (drop l.k (stacked l.b l.b l.list l.n)))
-
-abbrev pub decreases-loop-k : goal.decreases-loop-k
-decreases-loop-k l = l.n - l.k

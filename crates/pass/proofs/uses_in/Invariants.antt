@@ -1,6 +1,6 @@
--- `pass::uses_in` meets its contract. The invariant: the set has what the first `k` references use.
+-- `pass::uses_in` meets its contract. The invariant: the set has what the references so far use.
 -- Assumes nothing.
-use Prim.Native.Nat.{ℕ, ◌-◌, ◌≤◌}
+use Prim.Native.Nat.{ℕ}
 use mathlib.Core.List.{List}
 use mathlib.Core.Path.{◌≡◌}
 use Rattle.definition.specs.Definitions.{Macro}
@@ -10,8 +10,5 @@ use Rattle.pending.specs.References.{stacked}
 use Rattle.passing.specs.Passing.{uses_in}
 use Rattle.pass.proofs.uses_in.Given as goal
 
-abbrev pub invariant-loop-k : goal.invariant-loop-k
-invariant-loop-k l = (l.k ≤ l.n) × ((ms : List Macro) (j : ℕ) → Holds ms l.b l.records l.macros → elem j (members l.uses) ≡ elem j (uses_in ms (stacked l.b l.b l.list l.k)))
-
-abbrev pub decreases-loop-k : goal.decreases-loop-k
-decreases-loop-k l = l.n - l.k
+abbrev pub invariant-loop-v : goal.invariant-loop-v
+invariant-loop-v l = (ms : List Macro) (j : ℕ) → Holds ms l.b l.records l.macros → elem j (members l.uses) ≡ elem j (uses_in ms (stacked l.b l.b l.list l.v-index))

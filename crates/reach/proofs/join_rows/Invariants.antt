@@ -1,11 +1,7 @@
 -- `reach::join_rows` meets its contract: row after row.
 -- Assumes nothing.
-use Prim.Native.Nat.{◌-◌}
 use Rattle.reach.proofs.Joining.{Joining}
 use Rattle.reach.proofs.join_rows.Given as goal
 
 abbrev pub invariant-loop-i : goal.invariant-loop-i
 invariant-loop-i l = Joining l.initial.rows l.rows l.n l.i l.k
-
-abbrev pub decreases-loop-i : goal.decreases-loop-i
-decreases-loop-i l = l.n - l.i

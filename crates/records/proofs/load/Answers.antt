@@ -12,5 +12,5 @@ loop-i-init c = record {
 pub loop-i-preserved : goal.loop-i-preserved
 loop-i-preserved c = record {
   upto = omega arith;
-  reached = tabled_turn _ c.loop-i.i c.loop-i.invariant.reached c.read-r.ensures c.with_row-t.ensures;
+  reached = tabled_turn _ c.loop-i.i c.loop-i.invariant.reached c.read.ensures c.with_row-t.ensures;
 }

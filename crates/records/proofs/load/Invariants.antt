@@ -9,6 +9,3 @@ invariant-loop-i l = record {
   upto : l.i ≤ l.n;
   reached : l.t ≡ tabled (λ j. get_or l.fn.records j no_record) l.i;
 }
-
-abbrev pub decreases-loop-i : goal.decreases-loop-i
-decreases-loop-i l = l.n - l.i

@@ -8,7 +8,7 @@ pub loop-i-preserved : goal.loop-i-preserved
 loop-i-preserved c =
     let xs = c.args.records.now in
     let i = c.loop-i.i in
-    ap (λ b. b && all_none (drop (i + 1) xs)) (c.still_zero-zero.ensures ∙ ap (λ r. c.loop-i.zero && is_none r) c.read-r.ensures)
+    ap (λ b. b && all_none (drop (i + 1) xs)) (c.still_zero-zero.ensures ∙ ap (λ r. c.loop-i.zero && is_none r) c.read.ensures)
     ∙ zero_turn xs c.loop-i.zero i (omega arith)
     ∙ c.loop-i.invariant
 

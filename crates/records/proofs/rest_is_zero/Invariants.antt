@@ -6,6 +6,3 @@ use Rattle.records.proofs.rest_is_zero.Given as goal
 
 abbrev pub invariant-loop-i : goal.invariant-loop-i
 invariant-loop-i l = (l.zero && all_none (drop l.i l.records)) ≡ all_none (drop l.from l.records)
-
-abbrev pub decreases-loop-i : goal.decreases-loop-i
-decreases-loop-i l = l.n - l.i

@@ -8,6 +8,3 @@ invariant-loop-i l = record {
   upto : l.i ≤ l.n;
   reached : l.t ≡ tabled (λ j. of_row (get_or l.fn.rows j [])) l.i;
 }
-
-abbrev pub decreases-loop-i : goal.decreases-loop-i
-decreases-loop-i l = l.n - l.i

@@ -5,9 +5,6 @@ use Rattle.records.proofs.write_rows.Given as goal
 
 abbrev pub invariant-loop-i : goal.invariant-loop-i
 invariant-loop-i l = record {
-  upto : l.i ≤ l.n;
+  upto : l.i ≤ l.t.length;
   reached : l.rows ≡ rowed l.initial.rows l.t l.i;
 }
-
-abbrev pub decreases-loop-i : goal.decreases-loop-i
-decreases-loop-i l = l.n - l.i

@@ -20,7 +20,6 @@ use Rattle.pending.specs.Pending.{Pending, View, is_call, view}
 use Rattle.pending.specs.References.{pend_of, pending_by, blank, stacked}
 use Rattle.pending.specs.Sources.{items_from}
 use Rattle.pending.proofs.Viewing.{not_usage}
-use Rattle.std.proofs.Common.{Result, Ok, Err}
 use Rattle.lex.specs.declared.Fault.{Fault}
 use Rattle.replace.specs.Placing.{MacroIn}
 use Rattle.replace.specs.Replacing.{list_for}
@@ -29,7 +28,6 @@ use Rattle.expand.proofs.Calling.{formals_of, macro_in}
 use Rattle.expand.proofs.Replacing.{stacked_drop, items_list}
 use Rattle.expand.proofs.Naming.{usage_view}
 use Rattle.passing.specs.Passing.{or_next, formals_of as formals, bar_of, found_fault, usage_fault, fault_of, text_fault}
-use Rattle.std.proofs.Common.{Result, Ok, Err}
 use Rattle.pass.specs.Judging.{verdict_of}
 
 pub verdict_good : (f : Option ℕ) → Ok tt ≡ verdict_of f → f ≡ none

@@ -1,4 +1,4 @@
--- What `rest_is_zero` knows between its turns.
+-- The lists between the turns of `clear`, `fill` and `rest_is_zero`.
 -- Assumes nothing.
 use Prim.Native.Nat.{ℕ, suc, ◌+◌, ◌-◌, ◌<◌, ◌≤◌}
 use mathlib.Core.Bool.{Bool, true, false, ◌&&◌}
@@ -12,6 +12,27 @@ use Rattle.records.specs.declared.Record.{Record}
 use Rattle.records.specs.declared.Table.{Table}
 use Rattle.records.specs.Records.{no_record, is_none, all_none, inserted, removed}
 use Rattle.records.specs.Rows.{record_at, cleared, filled}
+
+cleared_next : (xs : List Record) (j : ℕ) → cleared (removed xs (suc j) j no_record) j ≡ cleared xs (suc j)
+unfolding cleared
+cleared_next xs j = refl
+
+pub cleared_turn : (xs : List Record) (i : ℕ) → 0 < i → cleared (removed xs i (i - 1) no_record) (i - 1) ≡ cleared xs i
+cleared_turn xs i h =
+    let e : suc (i - 1) ≡ i = omega arith in
+    subst (λ (k : ℕ). cleared (removed xs k (i - 1) no_record) (i - 1) ≡ cleared xs k) e (cleared_next xs (i - 1))
+
+pub cleared_none : (xs : List Record) (i : ℕ) → i ≡ 0 → cleared xs i ≡ xs
+unfolding cleared
+cleared_none xs i e = ap (cleared xs) e
+
+pub filled_first : (xs : List Record) (t : Table) → xs ≡ filled xs t 0
+unfolding filled
+filled_first xs t = refl
+
+pub filled_turn : (xs : List Record) (t : Table) (i : ℕ) → inserted (filled xs t i) i i (record_at t i) ≡ filled xs t (i + 1)
+unfolding filled
+filled_turn xs t i = rw add-one refl
 
 assoc : (a b c : Bool) → ((a && b) && c) ≡ (a && (b && c))
 assoc true b c = refl

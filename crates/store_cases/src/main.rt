@@ -22,19 +22,11 @@ use formats::{
 use macros::ReadIn;
 use text::part_of;
 
-fn wide(b: u8) -> usize
-    ensures { result < 256 }
-{
-    b as usize
-}
-
 // A number that bytes give, so that many need not be printed.
 fn sum_of(w: &[u8]) -> usize {
-    let mut i = 0;
     let mut n = 0;
-    while i < w.len() {
-        n = (n * 31 + wide(w[i])) % 16777216;
-        i += 1;
+    for &b in w {
+        n = (n * 31 + usize::from(b)) % 16777216;
     }
     n
 }
@@ -49,26 +41,13 @@ fn say_bytes(word: &[u8], w: &[u8]) {
     say(b"\n");
 }
 
-// 0 for a blank record, else 1.
-fn used(v: [u32; 4]) -> usize
-    ensures { result ≤ 1 }
-{
-    if (v[0] == 0) & (v[1] == 0) & (v[2] == 0) & (v[3] == 0) {
-        0
-    } else {
-        1
-    }
-}
-
 // How many records from `count` on are not blank.
 fn count_past(records: &[[u32; 4]], count: usize) -> usize {
-    let mut i = count;
-    let mut n = 0;
-    while i < records.len() {
-        n += used(records[i]);
-        i += 1;
-    }
-    n
+    records
+        .iter()
+        .skip(count)
+        .filter(|v| **v != [0u32; 4])
+        .count()
 }
 
 fn record_of(w: &[u8]) -> [u32; 4] {
@@ -86,19 +65,15 @@ fn range_of(w: &[u8]) -> [u32; 2] {
 
 // Copies records, as many as there are, from the bytes `w`.
 fn fill_records(w: &[u8], records: &mut [[u32; 4]]) {
-    let mut i = 0;
-    while i < records.len() {
-        records[i] = record_of(part_of(w, 16 * i, w.len()));
-        i += 1;
+    for (i, v) in records.iter_mut().enumerate() {
+        *v = record_of(part_of(w, 16 * i, w.len()));
     }
 }
 
 // Copies ranges, as many as there are, from the bytes `w`.
 fn fill_ranges(w: &[u8], ranges: &mut [[u32; 2]]) {
-    let mut i = 0;
-    while i < ranges.len() {
-        ranges[i] = range_of(part_of(w, 8 * i, w.len()));
-        i += 1;
+    for (i, v) in ranges.iter_mut().enumerate() {
+        *v = range_of(part_of(w, 8 * i, w.len()));
     }
 }
 

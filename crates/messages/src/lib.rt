@@ -3,6 +3,33 @@
 
 ghost use Rattle.std.specs.Prelude.{◌≤◌};
 
+use std::alloc::{AllocError, AllocFailed};
+
+// Why a run does not go on.
+#[derive(Clone, Copy, PartialEq, Eq)]
+pub enum Failure {
+    // a message was written
+    Told,
+    // an output turned out to be a file that is read; a message was written
+    Clash,
+    // the reader of an output went away
+    Gone,
+    // there is no memory left
+    Memory,
+}
+
+impl From<AllocError> for Failure {
+    fn from(_error: AllocError) -> Failure {
+        Failure::Memory
+    }
+}
+
+impl<T: Drop> From<AllocFailed<T>> for Failure {
+    fn from(_error: AllocFailed<T>) -> Failure {
+        Failure::Memory
+    }
+}
+
 // The descriptors of standard input, standard output and standard error.
 pub const STDIN_FILENO: i32 = 0;
 

@@ -105,3 +105,14 @@ impl Item {
         }
     }
 }
+
+impl GivenMacro {
+    // The name without a leading `\`.
+    pub fn plain_name(&self) -> &[u8] {
+        let name = self.name();
+        match name.split_first() {
+            Some((b'\\', rest)) => rest,
+            _ => name,
+        }
+    }
+}

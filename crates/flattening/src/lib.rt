@@ -30,7 +30,7 @@ fn flatten_once(plan: &Plan, sources: &Sources, buffers: &mut Buffers) -> Own {
     own::flatten(
         sources.store.as_slice(),
         sources.table.as_slice(),
-        sources.root.unwrap_or(sources.table.len()),
+        sources.root_entry(),
         sources.starts.as_slice(),
         plan.set,
         plan.limit,

@@ -111,6 +111,11 @@ impl Sources {
         Ok(())
     }
 
+    // The number of the root entry, or how many files there are where none is a root.
+    pub fn root_entry(&self) -> usize {
+        self.root.unwrap_or(self.files.len())
+    }
+
     // The name of the entry of file `k`.
     pub fn name(&self, k: usize) -> &[u8] {
         match self.table.get(k) {

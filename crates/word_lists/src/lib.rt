@@ -8,7 +8,7 @@ use std::env::{Env, FillError};
 use std::rt::Files;
 
 // The most words, ends of lists among them, and the most bytes of arguments and lists.
-const MOST_WORDS: usize = 4096;
+pub const MOST_WORDS: usize = 4096;
 
 const MOST_BYTES: usize = 131072;
 

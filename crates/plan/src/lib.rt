@@ -43,6 +43,8 @@ pub struct Plan {
     pub outputs: Outputs,
     // files, folders, macros and lists in the order given
     pub items: Vec<Item>,
+    // the value of the last option is missing
+    pub lacks_value: bool,
 }
 
 impl Plan {
@@ -60,6 +62,7 @@ impl Plan {
             name: Vec::new(alloc),
             outputs: Outputs::new(alloc),
             items: Vec::new(alloc),
+            lacks_value: false,
         }
     }
 

@@ -3,7 +3,7 @@
 // written.
 #![tactic(auto)]
 
-use answers::GONE;
+use answers::Answer;
 use messages::WRAPPER;
 use session::answer;
 use std::process::ExitCode;
@@ -11,20 +11,13 @@ use std::process::ExitCode;
 // The status of a program that a signal ended since nobody reads what it writes.
 const UNREAD: u8 = 141;
 
-// The store has one byte more than is taken, so that more shows.
 fn main(rt: HostRuntime) -> ExitCode {
-    let mut store = [0u8; 1048577];
-    let mut line = [0u8; 131072];
-    let mut words = [[0u32; 2]; 4096];
-    let mut rows = [[0u32; 5]; 1024];
-    let mut plan = [0usize; 50];
-    let mut bytes = [0u8; 65536];
-    let digit = answer(
-        &rt, &mut line, &mut words, &mut rows, &mut plan, &mut store, &mut bytes,
-    );
-    if digit == GONE {
-        return ExitCode::from(UNREAD);
-    }
+    let digit = match answer(&rt) {
+        Answer::Done => b'0',
+        Answer::Refused => b'1',
+        Answer::Failed => b'2',
+        Answer::Gone => return ExitCode::from(UNREAD),
+    };
     io::write_all(WRAPPER, &[digit]);
     ExitCode::SUCCESS
 }

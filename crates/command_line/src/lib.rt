@@ -3,39 +3,26 @@
 
 mod taking;
 
-use options::{FILE, SHOW_HELP};
-use plan::{COMMAND, DUE, LIMIT, SET, WORDS, get, put};
+use messages::Failure;
+use plan::Plan;
+use std::alloc::Global;
 use std::env::Env;
 use std::rt::Files;
-use taking::take_word;
-use word_lists::gather;
+use taking::Taking;
+use word_lists::{MOST_WORDS, Words};
 
 // Takes all words; a message is written where one is not taken. `-h` and `--version` end the command line.
-pub fn read_words(
-    rt: &(impl Env + Files),
-    line: &mut [u8],
-    words: &mut [[u32; 2]],
-    rows: &mut [[u32; 5]],
-    plan: &mut [usize],
-) -> bool {
-    put(plan, SET, 3);
-    put(plan, LIMIT, 100000);
-    put(plan, DUE, FILE);
-    if !gather(rt, line, words, plan) {
-        return false;
+pub fn read_words(rt: &(impl Env + Files), alloc: Global) -> Result<Plan, Failure> {
+    let words = Words::gather(rt, alloc)?;
+    let mut taking = Taking::new(words, alloc);
+    for i in 0..MOST_WORDS {
+        let Some(entry) = taking.next() else {
+            break;
+        };
+        taking.take(rt, entry, i == 0)?;
+        if taking.is_ended() {
+            break;
+        }
     }
-    let mut i = 0;
-    while i < 4096 {
-        if get(plan, WORDS) <= i {
-            return true;
-        }
-        if !take_word(rt, i, line, words, rows, plan) {
-            return false;
-        }
-        if SHOW_HELP <= get(plan, COMMAND) {
-            return true;
-        }
-        i += 1;
-    }
-    true
+    Ok(taking.into_plan())
 }

@@ -1,322 +1,259 @@
 // What each word asks for, put into the plan.
-use messages::complain;
-use options::{
-    ANGLED, DEFINES, END, FILE, FLATTEN, FOLDER, FOLDERS, HELP, INCLUDED, LIMIT, LINES, LIST,
-    LOOKUP, MACRO, MACROS, MAP, NAME, NO_NUMBER, QUIET, RULE, SET, SHOW_HELP, SHOW_VERSION, SILENT,
-    STRICT, STRIP, TEXT, VERSION, find_byte, takes_value,
-};
-use plan::{add_row, count_if, get, output_path, output_slot, put, put_range, sum, to_u32, wide};
+use messages::{Failure, complain};
+use options::{Flag, Valued, Word, command_of, number_of, set_of, word_of};
+use plan::{Command, FileKind, GivenFile, GivenMacro, Item, Output, Plan};
+use std::alloc::{AllocError, Global};
 use std::rt::Files;
-use text::{part_of, peek, same};
-use word_lists::{LIST_END, range_at, take_list};
+use word_lists::{Entry, Words};
 
-fn bad(what: &[u8], why: &[u8]) -> bool {
+// The most files, folders, macros and lists.
+const MOST_ITEMS: usize = 1024;
+
+// How far the words are taken.
+#[derive(Drop)]
+pub struct Taking {
+    alloc: Global,
+    words: Words,
+    plan: Plan,
+    // the option whose value comes next
+    due: Option<Valued>,
+    // whether only files follow
+    only_files: bool,
+    // the folder that is stripped from names from here on
+    strip: Vec<u8>,
+}
+
+fn bad(what: &[u8], why: &[u8]) -> Result<(), Failure> {
     complain(what, why);
-    false
+    Err(Failure::Told)
 }
 
-fn take_set(w: &[u8], plan: &mut [usize]) -> bool {
-    let s = options::set_of(w);
-    if 3 < s {
-        return bad(
-            w,
-            b"--set takes 1364-1995, 1364-2001, 1364-2005 or 1800-2005",
-        );
-    }
-    put(plan, plan::SET, s);
-    true
-}
-
-fn take_limit(w: &[u8], plan: &mut [usize]) -> bool {
-    let x = options::number_of(w);
-    if NO_NUMBER <= x {
-        return bad(w, b"--limit takes a number below 4,000,000,000");
-    }
-    put(plan, plan::LIMIT, x);
-    true
-}
-
-// The number of the output that an option names.
-fn output_of(kind: usize) -> usize {
-    match kind {
-        TEXT => plan::TEXT,
-        MAP => plan::MAP,
-        RULE => plan::RULE,
-        _ => plan::LISTED,
+fn file_kind(value: &[u8]) -> FileKind {
+    match value {
+        b"-" => FileKind::Input,
+        _ => FileKind::Root,
     }
 }
 
-fn take_output(kind: usize, at: usize, end: usize, line: &[u8], plan: &mut [usize]) -> bool {
-    let w = part_of(line, at, end);
-    let k = output_slot(output_of(kind));
-    if w.len() == 0 {
-        return bad(
-            b"an output without a path",
-            b"give a file, or - for standard output",
-        );
-    }
-    if output_path(line, plan, output_of(kind)).len() != 0 {
-        return bad(w, b"this output is given twice: give one of each kind");
-    }
-    put_range(plan, k, at, end);
-    true
-}
-
-fn take_row(row: [u32; 5], rows: &mut [[u32; 5]], plan: &mut [usize]) -> bool {
-    if add_row(rows, plan, row) {
-        return true;
-    }
-    bad(b"the command line", b"over 1,024 files, folders and macros")
-}
-
-// The kind of the row for a file.
-fn file_row(kind: usize, w: &[u8]) -> u32 {
-    if kind == INCLUDED {
-        return plan::INCLUDED;
-    }
-    if kind == ANGLED {
-        return plan::ANGLED;
-    }
-    if same(w, b"-") {
-        return plan::INPUT;
-    }
-    plan::ROOT
-}
-
-fn take_file(
-    kind: usize,
-    at: usize,
-    end: usize,
-    line: &[u8],
-    rows: &mut [[u32; 5]],
-    plan: &mut [usize],
-) -> bool {
-    count_if(plan, plan::ROOTS, kind == FILE);
-    let form = file_row(kind, part_of(line, at, end));
-    let from = to_u32(get(plan, plan::STRIP));
-    let to = to_u32(get(plan, plan::STRIP + 1));
-    take_row([form, to_u32(at), to_u32(end), from, to], rows, plan)
-}
-
-fn take_macro(
-    at: usize,
-    end: usize,
-    line: &[u8],
-    rows: &mut [[u32; 5]],
-    plan: &mut [usize],
-) -> bool {
-    let w = part_of(line, at, end);
-    let n = find_byte(w, b'=');
-    count_if(plan, plan::VALUES, n < w.len());
-    let split = to_u32(sum(at, n));
-    take_row([plan::MACRO, to_u32(at), to_u32(end), split, 0], rows, plan)
-}
-
-fn take_folder(at: usize, end: usize, rows: &mut [[u32; 5]], plan: &mut [usize]) -> bool {
-    if end <= at {
-        return bad(
-            b"-I without a folder",
-            b"give one, as -I DIR or +incdir+DIR",
-        );
-    }
-    take_row([plan::FOLDER, to_u32(at), to_u32(end), 0, 0], rows, plan)
-}
-
-fn take_one(
-    kind: usize,
-    at: usize,
-    end: usize,
-    line: &[u8],
-    rows: &mut [[u32; 5]],
-    plan: &mut [usize],
-) -> bool {
-    if kind == MACROS {
-        return take_macro(at, end, line, rows, plan);
-    }
-    take_folder(at, end, rows, plan)
-}
-
-// The values from `at` to `end`, with `+` between them, each a macro or a folder.
-fn take_several(
-    kind: usize,
-    at: usize,
-    end: usize,
-    line: &[u8],
-    rows: &mut [[u32; 5]],
-    plan: &mut [usize],
-) -> bool {
-    let mut i = at;
-    while i < end {
-        let e = sum(i, find_byte(part_of(line, i, end), b'+'));
-        if e <= i {
-            i += 1;
-            continue;
+impl Taking {
+    pub fn new(words: Words, alloc: Global) -> Taking {
+        Taking {
+            alloc,
+            words,
+            plan: Plan::new(alloc),
+            due: None,
+            only_files: false,
+            strip: Vec::new(alloc),
         }
-        if !take_one(kind, i, e, line, rows, plan) {
-            return false;
+    }
+
+    pub fn next(&mut self) -> Option<Entry> {
+        self.words.next()
+    }
+
+    // Whether what was taken ends the command line.
+    pub fn is_ended(&self) -> bool {
+        matches!(self.plan.command, Command::Help | Command::Version)
+    }
+
+    pub fn into_plan(self) -> Plan {
+        let Taking { mut plan, due, .. } = self;
+        plan.lacks_value = due.is_some();
+        plan
+    }
+
+    // Takes a word: the first may name a command; any may be the value of the option before it.
+    pub fn take(
+        &mut self,
+        files: &impl Files,
+        entry: Entry,
+        is_first: bool,
+    ) -> Result<(), Failure> {
+        let word = match entry {
+            Entry::Word(word) => word,
+            Entry::ListEnd => return self.end_list(),
+        };
+        let word = word.as_slice();
+        if is_first {
+            if let Some(command) = command_of(word) {
+                self.take_command(command);
+                return Ok(());
+            }
         }
-        i = e;
-    }
-    true
-}
-
-// The value, from `at` to `end` of `line`, of an option that names no file to read.
-fn take_setting(
-    kind: usize,
-    at: usize,
-    end: usize,
-    line: &[u8],
-    rows: &mut [[u32; 5]],
-    plan: &mut [usize],
-) -> bool {
-    match kind {
-        SET => take_set(part_of(line, at, end), plan),
-        LIMIT => take_limit(part_of(line, at, end), plan),
-        MACRO => take_macro(at, end, line, rows, plan),
-        FOLDER => take_folder(at, end, rows, plan),
-        STRIP => {
-            put_range(plan, plan::STRIP, at, end);
-            true
+        if let Some(kind) = self.due.take() {
+            return self.take_value(files, kind, word);
         }
-        NAME => {
-            put_range(plan, plan::NAME, at, end);
-            true
+        if self.only_files {
+            return self.add_file(file_kind(word), word);
         }
-        _ => take_output(kind, at, end, line, plan),
+        self.take_option(files, word)
     }
-}
 
-// The value of an option, or a file, which stands from `at` to `end` of `line`, in word `i`.
-fn take_value(
-    files: &impl Files,
-    kind: usize,
-    i: usize,
-    at: usize,
-    end: usize,
-    line: &mut [u8],
-    words: &mut [[u32; 2]],
-    rows: &mut [[u32; 5]],
-    plan: &mut [usize],
-) -> bool {
-    if kind == LIST {
-        if !take_row([plan::LIST, to_u32(at), to_u32(end), 0, 0], rows, plan) {
-            return false;
+    // The end of a list: its last option has its value.
+    fn end_list(&self) -> Result<(), Failure> {
+        if self.due.is_none() {
+            return Ok(());
         }
-        return take_list(files, i, at, end, line, words, plan);
+        bad(b"the last option of a list", b"its value is missing there")
     }
-    if (kind == FILE) | (kind == INCLUDED) | (kind == ANGLED) {
-        return take_file(kind, at, end, line, rows, plan);
-    }
-    take_setting(kind, at, end, line, rows, plan)
-}
 
-// The slot of an option that is on or off, or SLOTS.
-fn flag_slot(kind: usize) -> usize {
-    match kind {
-        QUIET => plan::QUIET,
-        SILENT => plan::SILENT,
-        STRICT => plan::STRICT,
-        LINES => plan::LINES,
-        DEFINES => plan::DEFINES,
-        END => plan::ENDED,
-        _ => plan::SLOTS,
+    // The command that the first word names.
+    fn take_command(&mut self, command: Command) {
+        self.plan.command = command;
+        if command == Command::LookUp {
+            self.due = Some(Valued::Name);
+        }
     }
-}
 
-// An option that has no value.
-fn take_flag(kind: usize, w: &[u8], plan: &mut [usize]) -> bool {
-    if kind == HELP {
-        put(plan, plan::COMMAND, SHOW_HELP);
-        return true;
+    // A word that is no option's value.
+    fn take_option(&mut self, files: &impl Files, word: &[u8]) -> Result<(), Failure> {
+        match word_of(word) {
+            Word::File => self.add_file(file_kind(word), word),
+            Word::Valued(kind, Some(value)) => self.take_value(files, kind, value),
+            Word::Valued(kind, None) => {
+                self.due = Some(kind);
+                Ok(())
+            }
+            Word::Macros(b"") | Word::Folders(b"") => bad(
+                word,
+                b"nothing stands behind it: give +define+NAME=VALUE or +incdir+DIR",
+            ),
+            Word::Macros(values) => {
+                for value in values.split(|b| *b == b'+') {
+                    if !value.is_empty() {
+                        self.add_macro(value)?;
+                    }
+                }
+                Ok(())
+            }
+            Word::Folders(values) => {
+                for value in values.split(|b| *b == b'+') {
+                    if !value.is_empty() {
+                        self.add_folder(value)?;
+                    }
+                }
+                Ok(())
+            }
+            Word::Flag(flag) => {
+                self.take_flag(flag);
+                Ok(())
+            }
+            Word::Unknown => bad(word, b"no such option (arborstitch -h lists them)"),
+        }
     }
-    if kind == VERSION {
-        put(plan, plan::COMMAND, SHOW_VERSION);
-        return true;
-    }
-    let k = flag_slot(kind);
-    if k == plan::SLOTS {
-        return bad(w, b"no such option (arborstitch -h lists them)");
-    }
-    put(plan, k, 1);
-    true
-}
 
-// The command that the first word names.
-fn take_command(command: usize, plan: &mut [usize]) -> bool {
-    put(plan, plan::COMMAND, command);
-    if command == LOOKUP {
-        put(plan, plan::DUE, NAME);
+    fn take_flag(&mut self, flag: Flag) {
+        match flag {
+            Flag::Help => self.plan.command = Command::Help,
+            Flag::Version => self.plan.command = Command::Version,
+            Flag::Quiet => self.plan.quiet = true,
+            Flag::Silent => self.plan.silent = true,
+            Flag::Strict => self.plan.strict = true,
+            Flag::Lines => self.plan.lines = true,
+            Flag::Defines => self.plan.defines = true,
+            Flag::End => self.only_files = true,
+        }
     }
-    true
-}
 
-// A word that is no option's value, from `at` to `end` of `line`.
-fn take_option(
-    files: &impl Files,
-    i: usize,
-    at: usize,
-    end: usize,
-    line: &mut [u8],
-    words: &mut [[u32; 2]],
-    rows: &mut [[u32; 5]],
-    plan: &mut [usize],
-) -> bool {
-    let w = options::word_of(part_of(line, at, end));
-    let kind = w.kind;
-    let from = w.from;
-    if ((kind == MACROS) | (kind == FOLDERS)) & (end <= sum(at, from)) {
-        return bad(
-            part_of(line, at, end),
-            b"nothing stands behind it: give +define+NAME=VALUE or +incdir+DIR",
-        );
+    // The value of an option.
+    fn take_value(
+        &mut self,
+        files: &impl Files,
+        kind: Valued,
+        value: &[u8],
+    ) -> Result<(), Failure> {
+        match kind {
+            Valued::Macro => self.add_macro(value),
+            Valued::Folder => self.add_folder(value),
+            Valued::Included => self.add_file(FileKind::Included, value),
+            Valued::Angled => self.add_file(FileKind::Angled, value),
+            Valued::List => {
+                self.add(Item::List(self.copy_of(value)?))?;
+                self.words.take_list(files, value)
+            }
+            Valued::Output(output) => self.take_output(output, value),
+            Valued::Set => self.take_set(value),
+            Valued::Limit => self.take_limit(value),
+            Valued::Strip => {
+                self.strip = self.copy_of(value)?;
+                Ok(())
+            }
+            Valued::Name => {
+                self.plan.name = self.copy_of(value)?;
+                Ok(())
+            }
+        }
     }
-    if (kind == MACROS) | (kind == FOLDERS) {
-        return take_several(kind, sum(at, from), end, line, rows, plan);
-    }
-    if takes_value(kind) & (from == 0) {
-        put(plan, plan::DUE, kind);
-        return true;
-    }
-    if takes_value(kind) | (kind == FILE) {
-        return take_value(files, kind, i, sum(at, from), end, line, words, rows, plan);
-    }
-    take_flag(kind, part_of(line, at, end), plan)
-}
 
-// The end of a list: its last option has its value.
-fn end_list(plan: &[usize]) -> bool {
-    if get(plan, plan::DUE) == FILE {
-        return true;
+    fn take_output(&mut self, output: Output, path: &[u8]) -> Result<(), Failure> {
+        if path.is_empty() {
+            return bad(
+                b"an output without a path",
+                b"give a file, or - for standard output",
+            );
+        }
+        if self.plan.outputs.is_given(output) {
+            return bad(path, b"this output is given twice: give one of each kind");
+        }
+        let path = self.copy_of(path)?;
+        self.plan.outputs.set_path(output, path);
+        Ok(())
     }
-    bad(b"the last option of a list", b"its value is missing there")
-}
 
-// Takes word `i`: the first may name a command; any may be the value of the option before it.
-pub fn take_word(
-    files: &impl Files,
-    i: usize,
-    line: &mut [u8],
-    words: &mut [[u32; 2]],
-    rows: &mut [[u32; 5]],
-    plan: &mut [usize],
-) -> bool {
-    let v = range_at(words, i);
-    let at = wide(v[0]);
-    let end = wide(v[1]);
-    if at == LIST_END {
-        return end_list(plan);
+    fn take_set(&mut self, version: &[u8]) -> Result<(), Failure> {
+        match set_of(version) {
+            Some(set) => {
+                self.plan.set = set;
+                Ok(())
+            }
+            None => bad(
+                version,
+                b"--set takes 1364-1995, 1364-2001, 1364-2005 or 1800-2005",
+            ),
+        }
     }
-    let command = options::command_of(part_of(line, at, end));
-    if (i == 0) & (command != FLATTEN) {
-        return take_command(command, plan);
+
+    fn take_limit(&mut self, digits: &[u8]) -> Result<(), Failure> {
+        match number_of(digits) {
+            Some(limit) => {
+                self.plan.limit = limit;
+                Ok(())
+            }
+            None => bad(digits, b"--limit takes a number below 4,000,000,000"),
+        }
     }
-    let due = get(plan, plan::DUE);
-    if due != FILE {
-        put(plan, plan::DUE, FILE);
-        return take_value(files, due, i, at, end, line, words, rows, plan);
+
+    fn add_file(&mut self, kind: FileKind, path: &[u8]) -> Result<(), Failure> {
+        let path = self.copy_of(path)?;
+        let strip = self.strip.clone()?;
+        self.add(Item::File(GivenFile { kind, path, strip }))
     }
-    if get(plan, plan::ENDED) != 0 {
-        return take_value(files, FILE, i, at, end, line, words, rows, plan);
+
+    fn add_macro(&mut self, word: &[u8]) -> Result<(), Failure> {
+        self.add(Item::Macro(GivenMacro {
+            word: self.copy_of(word)?,
+        }))
     }
-    take_option(files, i, at, end, line, words, rows, plan)
+
+    fn add_folder(&mut self, path: &[u8]) -> Result<(), Failure> {
+        if path.is_empty() {
+            return bad(
+                b"-I without a folder",
+                b"give one, as -I DIR or +incdir+DIR",
+            );
+        }
+        self.add(Item::Folder(self.copy_of(path)?))
+    }
+
+    fn add(&mut self, item: Item) -> Result<(), Failure> {
+        if self.plan.items.len() >= MOST_ITEMS {
+            return bad(b"the command line", b"over 1,024 files, folders and macros");
+        }
+        self.plan.items.push(item)?;
+        Ok(())
+    }
+
+    fn copy_of(&self, w: &[u8]) -> Result<Vec<u8>, AllocError> {
+        Vec::from_slice(self.alloc, w)
+    }
 }

@@ -1,248 +1,117 @@
 // Outputs written and put in place together: all whole, or none.
 #![tactic(auto)]
 
-use messages::complain;
-use output_files::{
-    Sink, close_output, drop_output, is_repeatable, open_output, place_output, set_aside, stands,
-};
-use outputs::{write_defines, write_map, write_marked, write_rule, write_words};
-use plan::{
-    DEFINES, LINE_COUNT, LINES, LISTED, MACRO_COUNT, MAP, ROWS, RULE, TEXT, WORD_COUNT, get,
-    output_path,
-};
-use records::Record;
+use messages::{Failure, complain};
+use output_files::{OutputFile, Sink, set_aside};
+use outputs::{Flat, write_defines, write_map, write_marked, write_rule, write_words};
+use plan::{Output, Plan, Sources};
 use std::alloc::Alloc;
-use std::io::{Result, Write};
+use std::io::{Result as Written, Write};
 use std::rt::Files;
 
-fn is_given(line: &[u8], plan: &[usize], k: usize) -> bool {
-    output_path(line, plan, k).len() != 0
+// The outputs in the order in which they are written and put in place: the text is the last.
+const ORDER: [Output; 4] = [Output::Rule, Output::Map, Output::Words, Output::Text];
+
+// Whether there is that output. The text goes to standard output where it is not given.
+fn is_written(plan: &Plan, output: Output) -> bool {
+    (output == Output::Text) | plan.outputs.is_given(output)
 }
 
-fn deliver_rule(
-    rt: &HostRuntime,
-    line: &[u8],
-    rows: &[[u32; 5]],
-    plan: &mut [usize],
-    store: &[u8],
-    paths: &[[u32; 3]],
-    included: &[u32],
-) -> bool {
-    if !is_given(line, plan, RULE) {
-        return true;
-    }
-    let Some(mut to) = open_output(rt, RULE, line, plan) else {
-        return false;
-    };
-    let target = output_path(line, plan, TEXT);
-    let n = get(plan, ROWS);
-    let written = write_rule(&mut to, target, store, paths, included, line, rows, n);
-    close_output(RULE, line, plan, to, written)
-}
-
-fn deliver_map(
-    rt: &HostRuntime,
-    line: &[u8],
-    plan: &mut [usize],
-    store: &[u8],
-    paths: &[[u32; 3]],
-    map: &[u32],
-) -> bool {
-    if !is_given(line, plan, MAP) {
-        return true;
-    }
-    let Some(mut to) = open_output(rt, MAP, line, plan) else {
-        return false;
-    };
-    let written = write_map(&mut to, store, paths, map, get(plan, LINE_COUNT));
-    close_output(MAP, line, plan, to, written)
-}
-
-fn deliver_words(
-    rt: &HostRuntime,
-    line: &[u8],
-    plan: &mut [usize],
-    flat: &[u8],
-    words: &[[u32; 3]],
-) -> bool {
-    if !is_given(line, plan, LISTED) {
-        return true;
-    }
-    let Some(mut to) = open_output(rt, LISTED, line, plan) else {
-        return false;
-    };
-    let written = write_words(&mut to, flat, words, get(plan, WORD_COUNT));
-    close_output(LISTED, line, plan, to, written)
-}
-
-// Writes the text, with or without marks, or the macros.
-fn write_text(
+// Writes an output that is open; as the text, with or without marks, or the macros.
+fn write_output(
     to: &mut Sink,
-    plan: &[usize],
-    flat: &[u8],
-    store: &[u8],
-    table: &[[u32; 5]],
-    paths: &[[u32; 3]],
-    map: &[u32],
-    bytes: &[u8],
-    records: [Record; 4096],
-) -> Result<()> {
-    if get(plan, DEFINES) != 0 {
-        return write_defines(to, bytes, records, get(plan, MACRO_COUNT));
+    output: Output,
+    plan: &Plan,
+    sources: &Sources,
+    flat: &Flat<'_>,
+) -> Written<()> {
+    match output {
+        Output::Rule => write_rule(to, plan, sources, flat.included),
+        Output::Map => write_map(to, sources, flat.map),
+        Output::Words => write_words(to, flat.text, flat.words),
+        Output::Text if plan.defines => { write_defines(to, flat.bytes, flat.records, flat.macros) }
+        Output::Text if plan.lines => write_marked(to, flat.text, sources, flat.map),
+        Output::Text => to.write_all(flat.text),
     }
-    if get(plan, LINES) != 0 {
-        return write_marked(to, flat, store, table, paths, map);
-    }
-    to.write_all(flat)
-}
-
-fn deliver_text(
-    rt: &HostRuntime,
-    line: &[u8],
-    plan: &mut [usize],
-    flat: &[u8],
-    store: &[u8],
-    table: &[[u32; 5]],
-    paths: &[[u32; 3]],
-    map: &[u32],
-    bytes: &[u8],
-    records: [Record; 4096],
-) -> bool {
-    let Some(mut to) = open_output(rt, TEXT, line, plan) else {
-        return false;
-    };
-    let written = write_text(
-        &mut to, plan, flat, store, table, paths, map, bytes, records,
-    );
-    close_output(TEXT, line, plan, to, written)
-}
-
-// The new files take their names, the text's last.
-fn place_all(rt: &(impl Files + Alloc), line: &[u8], plan: &mut [usize]) -> bool {
-    if !place_output(rt, RULE, line, plan) {
-        return false;
-    }
-    if !place_output(rt, MAP, line, plan) {
-        return false;
-    }
-    if !place_output(rt, LISTED, line, plan) {
-        return false;
-    }
-    place_output(rt, TEXT, line, plan)
-}
-
-fn drop_all(rt: &(impl Files + Alloc), line: &[u8], plan: &mut [usize]) {
-    drop_output(rt, RULE, line, plan);
-    drop_output(rt, MAP, line, plan);
-    drop_output(rt, LISTED, line, plan);
-    drop_output(rt, TEXT, line, plan);
-}
-
-// Whether all outputs are still those of this run.
-fn all_stand(files: &impl Files, line: &[u8], plan: &[usize]) -> bool {
-    stands(files, RULE, line, plan)
-        & stands(files, MAP, line, plan)
-        & stands(files, LISTED, line, plan)
-        & stands(files, TEXT, line, plan)
-}
-
-// Puts the outputs in place, if all are written; else none of their new files is left.
-fn put_in_place(rt: &(impl Files + Alloc), line: &[u8], plan: &mut [usize], written: bool) -> bool {
-    if !written {
-        drop_all(rt, line, plan);
-        return false;
-    }
-    if place_all(rt, line, plan) {
-        return true;
-    }
-    drop_all(rt, line, plan);
-    false
-}
-
-// Whether the outputs stay as they are: all are still of this run, or one of them could not be written again.
-fn is_settled(files: &impl Files, line: &[u8], plan: &[usize]) -> bool {
-    let repeatable = is_repeatable(RULE, plan)
-        & is_repeatable(MAP, plan)
-        & is_repeatable(LISTED, plan)
-        & is_repeatable(TEXT, plan);
-    !repeatable | all_stand(files, line, plan)
-}
-
-// Sees to it that none of the outputs that are named stands, where the run did not succeed.
-pub fn set_all_aside(rt: &(impl Files + Alloc), line: &[u8], plan: &[usize]) {
-    set_aside(rt, RULE, line, plan);
-    set_aside(rt, MAP, line, plan);
-    set_aside(rt, LISTED, line, plan);
-    set_aside(rt, TEXT, line, plan);
 }
 
 // Writes all outputs, each whole; none of them has its name yet.
 fn write_all(
     rt: &HostRuntime,
-    line: &[u8],
-    rows: &[[u32; 5]],
-    plan: &mut [usize],
-    flat: &[u8],
-    store: &[u8],
-    table: &[[u32; 5]],
-    paths: &[[u32; 3]],
-    map: &[u32],
-    words: &[[u32; 3]],
-    included: &[u32],
-    bytes: &[u8],
-    records: [Record; 4096],
-) -> bool {
-    if !deliver_rule(rt, line, rows, plan, store, paths, included) {
-        return false;
+    files: &mut [OutputFile<'_>],
+    plan: &Plan,
+    sources: &Sources,
+    flat: &Flat<'_>,
+) -> Result<(), Failure> {
+    for (output, file) in ORDER.iter().zip(files.iter_mut()) {
+        if is_written(plan, *output) {
+            let mut to = file.open(rt)?;
+            let written = write_output(&mut to, *output, plan, sources, flat);
+            file.close(to, written)?;
+        }
     }
-    if !deliver_map(rt, line, plan, store, paths, map) {
-        return false;
-    }
-    if !deliver_words(rt, line, plan, flat, words) {
-        return false;
-    }
-    deliver_text(
-        rt, line, plan, flat, store, table, paths, map, bytes, records,
-    )
+    Ok(())
 }
 
-fn give_up(line: &[u8], plan: &[usize]) -> bool {
-    complain(
-        output_path(line, plan, TEXT),
-        b"other runs keep writing the same outputs",
-    );
-    false
+// The new files take their names, the text's last.
+fn place_all(rt: &(impl Files + Alloc), files: &mut [OutputFile<'_>]) -> Result<(), Failure> {
+    for file in files.iter_mut() {
+        file.place(rt)?;
+    }
+    Ok(())
+}
+
+// Writes all outputs and puts them in place.
+fn deliver_once(
+    rt: &HostRuntime,
+    files: &mut [OutputFile<'_>],
+    plan: &Plan,
+    sources: &Sources,
+    flat: &Flat<'_>,
+) -> Result<(), Failure> {
+    write_all(rt, files, plan, sources, flat)?;
+    place_all(rt, files)
+}
+
+// Whether the outputs stay as they are: all are still of this run, or one of them could not be written again.
+fn is_settled(rt: &impl Files, files: &[OutputFile<'_>]) -> bool {
+    !files.iter().all(|file| file.is_repeatable()) || files.iter().all(|file| file.stands(rt))
 }
 
 // Writes all outputs and puts them in place: all of them, or none. Where another run put one of its own in place meanwhile, all
 // are written again, so that a text and its map are always of one run.
 pub fn deliver(
     rt: &HostRuntime,
-    line: &[u8],
-    rows: &[[u32; 5]],
-    plan: &mut [usize],
-    flat: &[u8],
-    store: &[u8],
-    table: &[[u32; 5]],
-    paths: &[[u32; 3]],
-    map: &[u32],
-    words: &[[u32; 3]],
-    included: &[u32],
-    bytes: &[u8],
-    records: [Record; 4096],
-) -> bool {
-    let mut k: usize = 0;
-    while k < 100 {
-        let written = write_all(
-            rt, line, rows, plan, flat, store, table, paths, map, words, included, bytes, records,
-        );
-        if !put_in_place(rt, line, plan, written) {
-            return false;
+    plan: &Plan,
+    sources: &Sources,
+    flat: &Flat<'_>,
+) -> Result<(), Failure> {
+    let mut files = ORDER.map(|output| OutputFile::new(plan.outputs.path(output)));
+    for _ in 0..100 {
+        if let Err(failure) = deliver_once(rt, &mut files, plan, sources, flat) {
+            for file in files.iter_mut() {
+                file.discard(rt);
+            }
+            return Err(failure);
         }
-        if is_settled(rt, line, plan) {
-            return true;
+        if is_settled(rt, &files) {
+            return Ok(());
         }
-        k += 1;
     }
-    give_up(line, plan)
+    complain(
+        plan.outputs.path(Output::Text),
+        b"other runs keep writing the same outputs",
+    );
+    Err(Failure::Told)
+}
+
+// Sees to it that none of the outputs that are named stands, where the run did not succeed.
+pub fn set_all_aside(rt: &(impl Files + Alloc), plan: &Plan) {
+    for output in ORDER {
+        let path = plan.outputs.path(output);
+        if set_aside(rt, path).is_err() {
+            complain(b"the command", b"out of memory");
+            complain(path, b"it stands as an older run left it");
+        }
+    }
 }

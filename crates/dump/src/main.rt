@@ -3,7 +3,7 @@
 #![tactic(auto)]
 
 use formats::{STDERR_FILENO, STDIN_FILENO, least, read_argument};
-use options::{NO_NUMBER, number_of};
+use options::number_of;
 use std::rt::Env;
 
 fn complain(i: usize, most: usize) {
@@ -14,12 +14,12 @@ fn complain(i: usize, most: usize) {
     io::write_all(STDERR_FILENO, b"\n");
 }
 
-// Argument `i`, with a message where it is no number up to `most`.
-fn argument(rt: &impl Env, i: usize, most: usize) -> usize {
+// Argument `i`; none, with a message, where it is no number up to `most`.
+fn argument(rt: &impl Env, i: usize, most: usize) -> Option<usize> {
     let mut word = [0u8; 16];
     let n = read_argument(rt, i, &mut word);
-    let x = number_of(&word[..n]);
-    if most < x {
+    let x = number_of(&word[..n]).filter(|x| *x <= most);
+    if x.is_none() {
         complain(i, most);
     }
     x
@@ -38,20 +38,11 @@ fn dump_lent(
     let limit = argument(rt, 6, 3999999999);
     let set = argument(rt, 7, 3999999999);
     let root = argument(rt, 8, 3999999999);
-    if (limit == NO_NUMBER) | (set == NO_NUMBER) | (root == NO_NUMBER) {
+    let (Some(limit), Some(set), Some(root)) = (limit, set, root) else {
         return;
-    }
-    outcome::dump_input(
-        s,
-        root,
-        least(set, NO_NUMBER) as u32,
-        limit,
-        text,
-        map,
-        records,
-        bytes,
-        words,
-    );
+    };
+    let set = u32::try_from(set).unwrap_or(u32::MAX);
+    outcome::dump_input(s, root, set, limit, text, map, records, bytes, words);
 }
 
 // Lends as much of the buffers as the arguments say.
@@ -69,14 +60,9 @@ fn run(
     let c = argument(rt, 3, records.len());
     let d = argument(rt, 4, bytes.len());
     let e = argument(rt, 5, words.len());
-    if (text.len() < a)
-        | (map.len() < b)
-        | (records.len() < c)
-        | (bytes.len() < d)
-        | (words.len() < e)
-    {
+    let (Some(a), Some(b), Some(c), Some(d), Some(e)) = (a, b, c, d, e) else {
         return;
-    }
+    };
     let a = least(a, text.len());
     let b = least(b, map.len());
     let c = least(c, records.len());

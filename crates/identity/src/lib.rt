@@ -9,16 +9,16 @@ use std::alloc::Alloc;
 use std::fs::Metadata;
 use std::io::{Error, ErrorKind, Result};
 use std::os::unix::fs::MetadataExt;
+use std::path::PathBuf;
 use std::rt::Files;
 use std::{fs, str};
 
 // The most bytes of a path: one of the 4,096 is the 0 that ends it.
 const LAST: usize = 4095;
 
-// What a file is known by. Where `found` is false the other fields are 0.
+// What a file is known by.
 #[derive(Clone, Copy)]
 pub struct Identity {
-    pub found: bool,
     pub device: u64,
     pub inode: u64,
     pub mode: u32,
@@ -26,92 +26,72 @@ pub struct Identity {
 
 // The path as text, where it is such.
 pub fn text_of(path: &[u8]) -> Result<&str> {
-    match str::from_utf8(path) {
-        Ok(text) => Ok(text),
-        Err(_) => Err(Error::new(ErrorKind::InvalidFilename, "the path is not UTF-8")),
-    }
+    str::from_utf8(path).map_err(|_| Error::new(
+        ErrorKind::InvalidFilename,
+        "the path is not UTF-8",
+    ))
 }
 
 // The file at the path, at a link the file where it leads. A path that is empty, has a 0 byte or is over 4,095 bytes is not found.
-pub fn of_path(files: &impl Files, path: &[u8]) -> Identity {
+pub fn of_path(files: &impl Files, path: &[u8]) -> Option<Identity> {
     if !is_path(path) {
-        return unknown();
+        return None;
     }
-    let path = ended(path);
-    stat_of(files, &path)
+    stat_of(files, &ended(path))
 }
 
 // The file that is open at the descriptor.
-pub fn of_descriptor(files: &impl Files, fd: i32) -> Identity {
-    if fd < 0 {
-        return unknown();
-    }
+pub fn of_descriptor(files: &impl Files, fd: i32) -> Option<Identity> {
+    let fd = u64::try_from(fd).ok()?;
     let mut space = io::buffer();
-    let n = descriptor_path(fd as u64, &mut space);
+    let n = descriptor_path(fd, &mut space);
     of_path(files, &space[..n])
 }
 
 // Whether both were found and are one file.
-pub fn is_same(a: Identity, b: Identity) -> bool {
-    a.found & b.found & (a.device == b.device) & (a.inode == b.inode)
+pub fn is_same(a: Option<Identity>, b: Option<Identity>) -> bool {
+    match (a, b) {
+        (Some(a), Some(b)) => (a.device == b.device) & (a.inode == b.inode),
+        _ => false,
+    }
 }
 
 // Whether it was found and is a regular file.
-pub fn is_regular(a: Identity) -> bool {
-    a.found & (a.mode / 4096 % 16 == 8)
+pub fn is_regular(a: Option<Identity>) -> bool {
+    is_of(a, 8)
 }
 
 // Whether it was found and is a folder.
-pub fn is_folder(a: Identity) -> bool {
-    a.found & (a.mode / 4096 % 16 == 4)
+pub fn is_folder(a: Option<Identity>) -> bool {
+    is_of(a, 4)
 }
 
 // Whether it was found and is a character device.
-pub fn is_device(a: Identity) -> bool {
-    a.found & (a.mode / 4096 % 16 == 2)
+pub fn is_device(a: Option<Identity>) -> bool {
+    is_of(a, 2)
+}
+
+// Whether it was found and its mode says this kind.
+fn is_of(a: Option<Identity>, kind: u32) -> bool {
+    a.is_some_and(|a| a.mode / 4096 % 16 == kind)
 }
 
 // Whether the path is that of a link, wherever it leads.
 pub fn is_link(files: &impl Files, path: &[u8]) -> bool {
     match text_of(path) {
-        Ok(text) => match fs::symlink_metadata(files, text) {
-            Ok(told) => told.is_symlink(),
-            Err(_) => false,
-        },
+        Ok(text) => fs::symlink_metadata(files, text).is_ok_and(|told| told.is_symlink()),
         Err(_) => false,
     }
 }
 
-// Puts the link's text at the front of `out` and answers its length: 0 where the path is no link, and 0 where the text
-// fills `out`, since it may then be cut.
-pub fn link_of(rt: &(impl Files + Alloc), path: &[u8], out: &mut [u8]) -> usize
-    ensures { IsPrefixLen result out.new }
-{
-    match text_of(path) {
-        Ok(text) => match fs::read_link(rt, text) {
-            Ok(link) => put_whole(link.as_str().as_bytes(), out),
-            Err(_) => 0,
-        },
-        Err(_) => 0,
-    }
+// The link's text; an error where the path is no link.
+pub fn link_of<R: Files + Alloc>(rt: &R, path: &[u8]) -> Result<PathBuf<R::A>> {
+    fs::read_link(rt, text_of(path)?)
 }
 
 // Whether the system can be handed all of the path.
 fn is_path(path: &[u8]) -> bool {
-    if path.len() == 0 {
-        return false;
-    }
-    if path.len() > LAST {
-        return false;
-    }
-    let mut i = 0;
-    while i < path.len() {
-        if path[i] == 0 {
-            return false;
-        }
-        i += 1;
-    }
-    true
+    !path.is_empty() & (path.len() <= LAST) & !path.contains(&0)
 }
 
 // As much of the path as leaves room for a 0, and then zeros.
@@ -119,28 +99,18 @@ fn ended(path: &[u8]) -> [u8; 4096]
     ensures { Ended result }
 {
     let mut text = io::buffer();
-    let mut i = 0;
-    while i < path.len() {
-        if i >= LAST {
-            break;
-        }
-        text[i] = path[i];
-        i += 1;
-    }
+    let n = path.len().min(LAST);
+    text[..n].copy_from_slice(&path[..n]);
     text[LAST] = 0;
     text
 }
 
 // The bytes before the first 0.
 fn until_zero(path: &[u8]) -> &[u8] {
-    let mut i = 0;
-    while i < path.len() {
-        if path[i] == 0 {
-            return &path[..i];
-        }
-        i += 1;
+    match path.iter().position(|&b| b == 0) {
+        Some(n) => &path[..n],
+        None => path,
     }
-    path
 }
 
 // Puts `w` at the front of `out` and answers its length; 0 where it does not leave a byte free.
@@ -164,35 +134,19 @@ fn descriptor_path(fd: u64, out: &mut [u8; 4096]) -> usize
     n + put_whole(&digits[..k], &mut out[n..])
 }
 
-// What a file that is not there is known by.
-fn unknown() -> Identity {
-    Identity {
-        found: false,
-        device: 0,
-        inode: 0,
-        mode: 0,
-    }
-}
-
 // The file that the system told of.
-fn found_by(told: Result<Metadata>) -> Identity {
-    match told {
-        Ok(told) => Identity {
-            found: true,
-            device: told.dev(),
-            inode: told.ino(),
-            mode: told.mode(),
-        },
-        Err(_) => unknown(),
+fn found_by(told: Metadata) -> Identity {
+    Identity {
+        device: told.dev(),
+        inode: told.ino(),
+        mode: told.mode(),
     }
 }
 
 // The file at a path that the system can be handed.
-fn stat_of(files: &impl Files, path: &[u8; 4096]) -> Identity
+fn stat_of(files: &impl Files, path: &[u8; 4096]) -> Option<Identity>
     requires { Ended path.now }
 {
-    match text_of(until_zero(path)) {
-        Ok(text) => found_by(fs::metadata(files, text)),
-        Err(_) => unknown(),
-    }
+    let text = text_of(until_zero(path)).ok()?;
+    fs::metadata(files, text).ok().map(found_by)
 }

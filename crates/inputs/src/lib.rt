@@ -1,19 +1,35 @@
-// Files that are read: opened, and read whole into lent bytes.
+// Files that are read: opened, and read whole behind what a `Vec` holds.
 #![tactic(auto)]
 
 use identity::text_of;
 use messages::complain;
+use std::alloc::AllocError;
 use std::fmt::InlineText;
 use std::fs::File;
 use std::io::{Error, ErrorKind, Read, Result};
 use std::rt::Files;
 
-// How many bytes were read; or there is no room for more; or they cannot be read.
+// Why a file was not read whole.
 #[derive(Clone, Copy)]
-pub enum Got {
-    Whole(usize),
+pub enum Unread {
+    // there is no room for more
     Full,
-    Unread(Error),
+    // it cannot be read
+    Failed(Error),
+    // there is no memory left
+    Memory,
+}
+
+impl From<AllocError> for Unread {
+    fn from(_error: AllocError) -> Unread {
+        Unread::Memory
+    }
+}
+
+impl From<Error> for Unread {
+    fn from(error: Error) -> Unread {
+        Unread::Failed(error)
+    }
 }
 
 // `arborstitch: PATH: ` and what the error means; of PATH its first line.
@@ -51,21 +67,23 @@ pub fn open_input<R: Files>(files: &R, path: &[u8]) -> Option<R::File> {
     }
 }
 
-// Reads an open file to its end and closes it.
-pub fn read_open<R: Read + Drop>(mut file: R, room: &mut [u8]) -> Got {
-    let mut n = 0;
-    while n < room.len() {
-        match file.read(&mut room[n..]) {
-            Ok(0) => {
-                return Got::Whole(n);
-            }
-            Ok(more) => {
-                n += more;
-            }
-            Err(error) => {
-                return Got::Unread(error);
-            }
+// Reads an open file to its end, behind what `out` holds, and closes it; how many bytes it has. It is Full where `most` bytes or
+// more were read, since none of the room for `most` bytes is left then.
+pub fn read_open<R: Read + Drop>(
+    mut file: R,
+    out: &mut Vec<u8>,
+    most: usize,
+) -> std::result::Result<usize, Unread> {
+    let mut piece = [0u8; 16384];
+    let mut room = most;
+    while room > 0 {
+        let length = room.min(piece.len());
+        let n = file.read(&mut piece[..length])?;
+        if n == 0 {
+            return Ok(most - room);
         }
+        out.extend_from_slice(&piece[..n])?;
+        room -= n;
     }
-    Got::Full
+    Err(Unread::Full)
 }

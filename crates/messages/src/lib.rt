@@ -3,6 +3,34 @@
 
 ghost use Rattle.std.specs.Prelude.{◌≤◌};
 
+use std::alloc::{AllocError, AllocFailed};
+use text::part_of;
+
+// Why a run does not go on.
+#[derive(Clone, Copy, PartialEq, Eq)]
+pub enum Failure {
+    // a message was written
+    Told,
+    // an output turned out to be a file that is read; a message was written
+    Clash,
+    // the reader of an output went away
+    Gone,
+    // there is no memory left
+    Memory,
+}
+
+impl From<AllocError> for Failure {
+    fn from(_error: AllocError) -> Failure {
+        Failure::Memory
+    }
+}
+
+impl<T: Drop> From<AllocFailed<T>> for Failure {
+    fn from(_error: AllocFailed<T>) -> Failure {
+        Failure::Memory
+    }
+}
+
 // The descriptors of standard input, standard output and standard error.
 pub const STDIN_FILENO: i32 = 0;
 
@@ -22,7 +50,7 @@ pub fn say_number(n: usize) {
 }
 
 pub fn first_line(w: &[u8]) -> &[u8] {
-    text::part_of(w, 0, line_end(w, 0))
+    part_of(w, 0, line_end(w, 0))
 }
 
 // `arborstitch: WHAT: WHY`; of WHAT its first line.
@@ -34,164 +62,123 @@ pub fn complain(what: &[u8], why: &[u8]) {
     say(b"\n");
 }
 
-fn least(a: usize, b: usize) -> usize
-    ensures { (result ≤ a) × (result ≤ b) }
-{
-    if a < b { a } else { b }
-}
-
 // The first byte of the line that has byte `at`, or of the last line.
 fn line_start(s: &[u8], at: usize) -> usize {
-    let mut i = least(at, s.len());
-    while 0 < i {
-        if s[i - 1] == 10 {
-            return i;
-        }
-        i -= 1;
+    match part_of(s, 0, at).iter().rposition(|b| *b == b'\n') {
+        Some(newline) => newline + 1,
+        None => 0,
     }
-    i
 }
 
 // The end of the line from `at` on.
 pub fn line_end(s: &[u8], at: usize) -> usize
     ensures { at ≤ result }
 {
-    let mut i = at;
-    while i < s.len() {
-        if s[i] == 10 {
+    for i in at..s.len() {
+        if s[i] == b'\n' {
             return i;
         }
-        i += 1;
     }
-    i
+    at.max(s.len())
 }
 
 // A byte as a terminal may have it.
 fn visible(b: u8) -> u8 {
-    if b == 9 {
-        return b;
+    match b {
+        b'\t' | b' '..=b'~' => b,
+        _ => b'?',
     }
-    if (32 <= b) & (b <= 126) { b } else { 63 }
 }
 
 // What stands under a byte before the mark.
 fn blank(b: u8) -> u8 {
-    if b == 9 { b } else { 32 }
+    if b == b'\t' { b } else { b' ' }
 }
 
-// At most 160 bytes of `w`, as a terminal may have them.
-fn say_visible(w: &[u8]) {
+// At most 160 bytes of `w`, each as `shown` gives it.
+fn say_each<F: Fn(u8) -> u8 + Drop>(w: &[u8], shown: F)
+    requires { F.IsAlwaysCallable shown }
+{
     let mut line = [0u8; 160];
-    let n = least(w.len(), 160);
-    let mut i = 0;
-    while i < n {
-        line[i] = visible(w[i]);
-        i += 1;
+    let n = w.len().min(line.len());
+    for (to, b) in line.iter_mut().zip(w) {
+        *to = shown(*b);
     }
-    say(&line[0..i]);
-    say(b"\n");
-}
-
-// A mark behind as many blanks as `w` has bytes, at most 160.
-fn say_mark(w: &[u8]) {
-    let mut line = [0u8; 160];
-    let n = least(w.len(), 160);
-    let mut i = 0;
-    while i < n {
-        line[i] = blank(w[i]);
-        i += 1;
-    }
-    say(&line[0..i]);
-    say(b"^\n");
+    say(&line[..n]);
 }
 
 // The later of `start` and 100 bytes before `at`.
 fn shown_from(start: usize, at: usize) -> usize {
-    if at < 100 {
-        return start;
-    }
-    if start < at - 100 { at - 100 } else { start }
+    start.max(at.saturating_sub(100))
 }
 
 // The source line of byte `at`, from at most 100 bytes before it on, and a mark under the byte.
 pub fn say_source(s: &[u8], at: usize) {
     let from = shown_from(line_start(s, at), at);
-    say_visible(text::part_of(s, from, line_end(s, from)));
-    say_mark(text::part_of(s, from, at));
+    say_each(part_of(s, from, line_end(s, from)), visible);
+    say(b"\n");
+    // the mark behind as many blanks as there are bytes before it
+    say_each(part_of(s, from, at), blank);
+    say(b"^\n");
 }
 
-fn say_reading(n: usize) {
+// What refusals 1 to 8 mean.
+fn reading(n: usize) -> &'static [u8] {
     match n {
-        1 => say(b"what is handed over breaks a size or a rule"),
-        2 => say(b"a byte that a source may not have"),
-        3 => say(b"a string or block comment that does not end, or a string that meets a newline"),
-        4 => {
-            say(
-                b"a grave accent that begins no token, or a joiner or quote mark outside macro text",
-            );
-        }
-        5 => say(b"three quotation marks in a row"),
-        6 => say(b"a name of over 1,024 bytes"),
-        7 => say(b"a directive that is not taken, or is not of its form"),
-        _ => {
-            say(
-                b"a conditional word with none open or out of order, a 33rd open, or one never closed",
-            );
-        }
+        1 => b"what is handed over breaks a size or a rule",
+        2 => b"a byte that a source may not have",
+        3 => b"a string or block comment that does not end, or a string that meets a newline",
+        4 => b"a grave accent that begins no token, or a joiner or quote mark outside macro text",
+        5 => b"three quotation marks in a row",
+        6 => b"a name of over 1,024 bytes",
+        7 => b"a directive that is not taken, or is not of its form",
+        _ => b"a conditional word with none open or out of order, a 33rd open, or one never closed",
     }
 }
 
-fn say_including(n: usize) {
+// What refusals 9 to 12 mean.
+fn including(n: usize) -> &'static [u8] {
     match n {
         9 => {
-            say(
-                b"an include of no file given, with other text on its line, or of a / name in angle brackets",
-            );
+            b"an include of no file given, with other text on its line, or of a / name in angle brackets"
         }
-        10 => say(b"an include 16 deep"),
-        11 => say(b"a bad definition"),
-        _ => say(b"no room for a macro: over 256 of them, or over 65,536 bytes in all"),
+        10 => b"an include 16 deep",
+        11 => b"a bad definition",
+        _ => b"no room for a macro: over 256 of them, or over 65,536 bytes in all",
     }
 }
 
-fn say_replacing(n: usize) {
+// What refusals 13 to 18 mean.
+fn replacing(n: usize) -> &'static [u8] {
     match n {
-        13 => say(b"a usage of a macro that is not defined"),
+        13 => b"a usage of a macro that is not defined",
         14 => {
-            say(
-                b"an argument list missing, without end, with a wrong bracket, a directive or a quote mark",
-            );
+            b"an argument list missing, without end, with a wrong bracket, a directive or a quote mark"
         }
-        15 => say(b"a number of arguments that the macro does not take"),
-        16 => say(b"a macro that uses itself"),
-        17 => say(b"over 1,024 tokens are pending"),
-        _ => say(b"the replacement limit is reached (--limit)"),
+        15 => b"a number of arguments that the macro does not take",
+        16 => b"a macro that uses itself",
+        17 => b"over 1,024 tokens are pending",
+        _ => b"the replacement limit is reached (--limit)",
     }
 }
 
-fn say_room(n: usize) {
+// What refusals from 19 on mean.
+fn filling(n: usize) -> &'static [u8] {
     match n {
-        19 => say(b"the flat text is over 2,097,152 bytes"),
-        20 => say(b"the flat text has over 131,072 lines"),
-        _ => say(b"over 131,072 words"),
+        19 => b"the flat text is over 2,097,152 bytes",
+        20 => b"the flat text has over 131,072 lines",
+        _ => b"over 131,072 words",
     }
 }
 
 // What a refusal's number means, by document 01.
 pub fn say_meaning(n: usize) {
-    if n <= 8 {
-        say_reading(n);
-        return;
-    }
-    if n <= 12 {
-        say_including(n);
-        return;
-    }
-    if n <= 18 {
-        say_replacing(n);
-        return;
-    }
-    say_room(n);
+    say(match n {
+        0..=8 => reading(n),
+        9..=12 => including(n),
+        13..=18 => replacing(n),
+        _ => filling(n),
+    });
 }
 
 // `refused N: what it means`

@@ -4,36 +4,63 @@
 use lex::{ESCAPED, GRAVE, NAME, NEWLINE, Token, is_byte, is_gap};
 use names::{ELSIF, IFDEF, IFNDEF};
 
+// What a conditional word waits for.
+#[derive(Clone, Copy, PartialEq, Eq)]
+pub enum Due {
+    Nothing,
+    // a name, or the `(` of a condition
+    Condition,
+    // so many `)`
+    Closings(usize),
+}
+
 fn is_conditional(d: usize) -> bool {
     (d == IFDEF) | ((d == IFNDEF) | (d == ELSIF))
 }
 
-// One `)` less.
-fn closed(due: usize) -> usize {
-    if due <= 2 { 0 } else { due - 1 }
-}
+impl Due {
+    // One `(` more.
+    fn opened(self) -> Due {
+        match self {
+            Due::Closings(open) => Due::Closings(open.saturating_add(1)),
+            _ => Due::Closings(1),
+        }
+    }
 
-// What a conditional word waits for past the token `t`: nothing (0), its name or `(` (1), or one `)` less than the number.
-pub fn due_after(body: &[u8], due: usize, t: Token, d: usize) -> usize {
-    if is_conditional(d) {
-        return 1;
+    // One `)` less.
+    fn closed(self) -> Due {
+        match self {
+            Due::Closings(open) if 1 < open => Due::Closings(open - 1),
+            _ => Due::Nothing,
+        }
     }
-    if t.kind == NEWLINE {
-        return 0;
-    }
-    if is_gap(t) | (due == 0) {
-        return due;
-    }
-    if is_byte(body, t, 40) {
-        return due % 65536 + 1;
-    }
-    if is_byte(body, t, 41) {
-        return closed(due);
-    }
-    if due == 1 { 0 } else { due }
-}
 
-// Whether the token `t` is a name that a conditional word tests, or a usage.
-pub fn is_use(due: usize, t: Token, d: usize) -> bool {
-    ((due != 0) & ((t.kind == NAME) | (t.kind == ESCAPED))) | ((t.kind == GRAVE) & (d == 0))
+    // What is waited for past the token `t`, which is the directive `d`.
+    pub fn after(self, body: &[u8], t: Token, d: usize) -> Due {
+        if is_conditional(d) {
+            return Due::Condition;
+        }
+        if t.kind == NEWLINE {
+            return Due::Nothing;
+        }
+        if is_gap(t) | (self == Due::Nothing) {
+            return self;
+        }
+        if is_byte(body, t, b'(') {
+            return self.opened();
+        }
+        if is_byte(body, t, b')') {
+            return self.closed();
+        }
+        match self {
+            Due::Closings(open) => Due::Closings(open),
+            _ => Due::Nothing,
+        }
+    }
+
+    // Whether the token `t`, which is the directive `d`, is a name that a conditional word tests, or a usage.
+    pub fn is_use(self, t: Token, d: usize) -> bool {
+        let named = (t.kind == NAME) | (t.kind == ESCAPED);
+        ((self != Due::Nothing) & named) | ((t.kind == GRAVE) & (d == 0))
+    }
 }

@@ -3,142 +3,143 @@
 use directive::{FileName, include_at};
 use handover::entry_of;
 use lex::Token;
-use plan::{MADE, file_kind, less, to_u32, wide};
-use spots::{Spot, body_of};
+use plan::{FileKind, Sources};
+use spots::{Place, Spot};
 use text::part_of;
 
-// A place as the map has it.
-fn place_of(z: Spot) -> u32 {
-    to_u32(z.file % 32768 * 131072 + z.line % 131072)
+// How a file is included: whether late, and which file it includes by its own first byte.
+#[derive(Clone, Copy)]
+pub struct Inclusion {
+    pub late: bool,
+    pub head: Option<usize>,
 }
 
-// Where file `k` is included first; 0 where it is not.
-pub fn place_at(included: &[u32], k: usize) -> u32 {
-    if included.len() <= k {
-        return 0;
+// Where file `k` is included first, if it is.
+pub fn place_at(included: &[u32], k: usize) -> Option<Place> {
+    match included.get(k) {
+        Some(entry) if *entry != 0 => Some(Place::of_entry(*entry)),
+        _ => None,
     }
-    included[k]
 }
 
-fn put_first(included: &mut [u32], k: usize, place: u32) {
-    if place_at(included, k) != 0 {
-        return;
+fn put_first(included: &mut [u32], k: usize, place: Place) {
+    if let Some(entry) = included.get_mut(k) {
+        if *entry == 0 {
+            *entry = place.entry();
+        }
     }
-    if included.len() <= k {
-        return;
-    }
-    included[k] = place;
 }
 
-fn set_late(late: &mut [[u32; 2]], k: usize) {
-    if late.len() <= k {
-        return;
+fn set_late(inclusions: &mut [Inclusion], k: usize) {
+    if let Some(inclusion) = inclusions.get_mut(k) {
+        inclusion.late = true;
     }
-    let v = late[k];
-    late[k] = [1, v[1]];
-}
-
-// File `k` is included by the first byte of file `f`.
-fn set_head(late: &mut [[u32; 2]], f: usize, k: usize) {
-    if late.len() <= f {
-        return;
-    }
-    let v = late[f];
-    late[f] = [v[0], to_u32(k % 65536 + 1)];
 }
 
 // File `k` is included at `z`: where bytes stand before on that line, the first line of the file goes on behind them.
-fn note_late(late: &mut [[u32; 2]], z: Spot, at: usize, k: usize) {
+fn note_late(inclusions: &mut [Inclusion], z: Spot, at: usize, k: usize) {
     if at != z.start {
-        set_late(late, k);
+        set_late(inclusions, k);
         return;
     }
     if z.line == 1 {
-        set_head(late, z.file, k);
+        if let Some(inclusion) = inclusions.get_mut(z.file) {
+            inclusion.head = Some(k);
+        }
     }
 }
 
-pub fn is_late(late: &[[u32; 2]], k: usize) -> bool {
-    if late.len() <= k {
-        return true;
+pub fn is_late(inclusions: &[Inclusion], k: usize) -> bool {
+    match inclusions.get(k) {
+        Some(inclusion) => inclusion.late,
+        None => true,
     }
-    let v = late[k];
-    v[0] != 0
 }
 
-// What file `i` includes by its first byte is late where it is late itself.
-fn spread_from(late: &mut [[u32; 2]], i: usize) {
-    if late.len() <= i {
-        return;
+// What file `i` includes by its first byte, where it is late itself.
+fn late_head(inclusions: &[Inclusion], i: usize) -> Option<usize> {
+    match inclusions.get(i) {
+        Some(inclusion) if inclusion.late => inclusion.head,
+        _ => None,
     }
-    let v = late[i];
-    if (v[0] == 0) | (v[1] == 0) {
-        return;
-    }
-    set_late(late, less(wide(v[1]), 1));
 }
 
-fn spread_once(late: &mut [[u32; 2]]) {
-    let mut i = 0;
-    while i < 64 {
-        spread_from(late, i);
-        i += 1;
+fn spread_once(inclusions: &mut [Inclusion]) {
+    for i in 0..inclusions.len() {
+        if let Some(k) = late_head(inclusions, i) {
+            set_late(inclusions, k);
+        }
     }
 }
 
 // Makes all files late that are so by others.
-pub fn spread_late(late: &mut [[u32; 2]]) {
-    let mut n: usize = 0;
-    while n < 64 {
-        spread_once(late);
-        n += 1;
+pub fn spread_late(inclusions: &mut [Inclusion]) {
+    for _ in 0..inclusions.len() {
+        spread_once(inclusions);
     }
 }
 
 fn note_include(
-    store: &[u8],
-    table: &[[u32; 5]],
-    paths: &[[u32; 3]],
+    sources: &Sources,
     z: Spot,
     at: usize,
     form: u32,
     name: &[u8],
     included: &mut [u32],
-    late: &mut [[u32; 2]],
+    inclusions: &mut [Inclusion],
 ) {
-    let k = entry_of(store, table, form, name);
-    if table.len() <= k {
+    let k = entry_of(
+        sources.store.as_slice(),
+        sources.table.as_slice(),
+        form,
+        name,
+    );
+    if sources.table.len() <= k {
         return;
     }
-    note_late(late, z, at, k);
-    if file_kind(paths, z.file) == MADE {
+    note_late(inclusions, z, at, k);
+    if sources.kind(z.file) == Some(FileKind::Made) {
         return;
     }
-    put_first(included, k, place_of(z));
+    let place = Place {
+        file: z.file,
+        line: z.line,
+    };
+    put_first(included, k, place);
 }
 
 // Takes note of the `include` at `z`, the token `t`.
 pub fn take_include(
-    store: &[u8],
-    table: &[[u32; 5]],
-    paths: &[[u32; 3]],
+    sources: &Sources,
     z: Spot,
     t: Token,
     included: &mut [u32],
-    late: &mut [[u32; 2]],
+    inclusions: &mut [Inclusion],
 ) {
-    let body = body_of(store, table, z.file);
-    let r = include_at(body, t.end);
-    let file = r.file;
-    match file {
+    let body = sources.body(z.file);
+    match include_at(body, t.end).file {
         FileName::Unnamed => {}
         FileName::Quoted(a, e) => {
-            let name = part_of(body, a, e);
-            note_include(store, table, paths, z, t.at, 0, name, included, late);
+            note_include(
+                sources,
+                z,
+                t.at,
+                0,
+                part_of(body, a, e),
+                included,
+                inclusions,
+            );
         }
         FileName::Angled(a, e) => {
-            let name = part_of(body, a, e);
-            note_include(store, table, paths, z, t.at, 1, name, included, late);
+            note_include(
+                sources,
+                z,
+                t.at,
+                1,
+                part_of(body, a, e),
+                included,
+                inclusions,
+            );
         }
     }
 }

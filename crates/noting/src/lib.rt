@@ -3,28 +3,19 @@
 
 pub mod includes;
 pub mod notes;
-pub mod tallies;
 
 ghost use Rattle.std.specs.Prelude.{◌<◌, length};
 
-use crate::includes::take_include;
-use crate::notes::note;
+use crate::includes::{Inclusion, take_include};
+use crate::notes::{Notes, action_of};
 use definition::extent_at;
 use lex::{CONTINUATION, NEWLINE, Token, WHITE, in_definition, token_at};
-use names::{DEFINE, INCLUDE, UNDEF, UNDEFINE_ALL};
+use names::{DEFINE, INCLUDE};
 use places::newlines_in;
-use plan::sum;
-use spots::{Spot, body_of, directive_in, marks_past, past};
+use plan::Sources;
+use spots::{Spot, directive_in, marks_past, past};
+use std::alloc::{AllocError, Global};
 use text::part_of;
-
-// Sets all numbers to 0.
-fn clear(x: &mut [u32]) {
-    let mut i = 0;
-    while i < x.len() {
-        x[i] = 0;
-        i += 1;
-    }
-}
 
 fn is_line_end(t: Token) -> bool {
     (t.kind == NEWLINE) | (t.kind == CONTINUATION)
@@ -38,8 +29,7 @@ fn hidden_after(body: &[u8], z: Spot, t: Token, d: usize) -> usize {
     if (d != DEFINE) | (t.at < z.hidden) {
         return z.hidden;
     }
-    let w = extent_at(body, t.end);
-    w.end
+    extent_at(body, t.end).end
 }
 
 // Past the token `t`, which is the directive `d`.
@@ -51,7 +41,9 @@ fn step(body: &[u8], z: Spot, t: Token, d: usize) -> Spot
     Spot {
         file: z.file,
         at: next,
-        line: sum(z.line, newlines_in(part_of(body, z.at, next))),
+        line: z
+            .line
+            .saturating_add(newlines_in(part_of(body, z.at, next))),
         start: start_after(z, t, next),
         fresh: is_line_end(t) | (z.fresh & (t.kind == WHITE)),
         marks: marks_past(z.marks, t),
@@ -60,28 +52,24 @@ fn step(body: &[u8], z: Spot, t: Token, d: usize) -> Spot
 }
 
 // Takes note of the directive `d`, the token `t`.
-fn take(
-    store: &[u8],
-    table: &[[u32; 5]],
-    paths: &[[u32; 3]],
+fn take<'a>(
+    sources: &'a Sources,
     z: Spot,
     t: Token,
     d: usize,
     included: &mut [u32],
-    late: &mut [[u32; 2]],
-    seen: &mut [[u32; 5]],
-    vague: &mut [[u32; 3]],
-    tallies: &mut [usize],
-) {
+    notes: &mut Notes<'a>,
+) -> Result<(), AllocError> {
     if t.at < z.hidden {
-        return;
+        return Ok(());
     }
     if d == INCLUDE {
-        take_include(store, table, paths, z, t, included, late);
-        return;
+        take_include(sources, z, t, included, notes.inclusions.as_mut_slice());
+        return Ok(());
     }
-    if (d == DEFINE) | ((d == UNDEF) | (d == UNDEFINE_ALL)) {
-        note(body_of(store, table, z.file), z, t, d, seen, vague, tallies);
+    match action_of(d) {
+        Some(action) => notes.note(sources.body(z.file), z, t, action),
+        None => Ok(()),
     }
 }
 
@@ -98,65 +86,42 @@ fn start_of(file: usize) -> Spot {
     }
 }
 
-// Takes the token at `z`; past it.
-fn turn(
-    store: &[u8],
-    table: &[[u32; 5]],
-    paths: &[[u32; 3]],
-    body: &[u8],
-    z: Spot,
-    included: &mut [u32],
-    late: &mut [[u32; 2]],
-    seen: &mut [[u32; 5]],
-    vague: &mut [[u32; 3]],
-    tallies: &mut [usize],
-) -> Spot
-    requires { z.at < length body.now }
-    ensures { z.at < result.at }
-{
-    let t = token_at(body, z.at, in_definition(z.marks));
-    let d = directive_in(body, t);
-    take(
-        store, table, paths, z, t, d, included, late, seen, vague, tallies,
-    );
-    step(body, z, t, d)
-}
-
-fn walk_file(
-    store: &[u8],
-    table: &[[u32; 5]],
-    paths: &[[u32; 3]],
+fn walk_file<'a>(
+    sources: &'a Sources,
     file: usize,
     included: &mut [u32],
-    late: &mut [[u32; 2]],
-    seen: &mut [[u32; 5]],
-    vague: &mut [[u32; 3]],
-    tallies: &mut [usize],
-) {
-    let body = body_of(store, table, file);
+    notes: &mut Notes<'a>,
+) -> Result<(), AllocError> {
+    let body = sources.body(file);
     let mut z = start_of(file);
     while z.at < body.len() {
-        z = turn(
-            store, table, paths, body, z, included, late, seen, vague, tallies,
-        );
+        let t = token_at(body, z.at, in_definition(z.marks));
+        let d = directive_in(body, t);
+        take(sources, z, t, d, included, notes)?;
+        z = step(body, z, t, d);
     }
+    Ok(())
 }
 
-// Walks over all files.
-pub fn walk_files(
-    store: &[u8],
-    table: &[[u32; 5]],
-    paths: &[[u32; 3]],
+// Walks over all files; `included` tells for each file where the first `include` of it stands, as an entry of the map, or 0.
+pub fn walk_files<'a>(
+    alloc: Global,
+    sources: &'a Sources,
     included: &mut [u32],
-    late: &mut [[u32; 2]],
-    seen: &mut [[u32; 5]],
-    vague: &mut [[u32; 3]],
-    tallies: &mut [usize],
-) {
-    clear(included);
-    let mut k = 0;
-    while k < table.len() {
-        walk_file(store, table, paths, k, included, late, seen, vague, tallies);
-        k += 1;
+) -> Result<Notes<'a>, AllocError> {
+    let apart = Inclusion {
+        late: false,
+        head: None,
+    };
+    let mut notes = Notes {
+        list: Vec::new(alloc),
+        vague: Vec::new(alloc),
+        stopped: false,
+        inclusions: vec![in alloc; apart; sources.files.len()]?,
+    };
+    included.fill(0);
+    for k in 0..sources.files.len() {
+        walk_file(sources, k, included, &mut notes)?;
     }
+    Ok(notes)
 }

@@ -1,75 +1,114 @@
-// The definitions that the walk met, noted in the order of files and lines. A row has the file, the line whose place in the
-// map shows that the directive was carried out, its first byte, its kind and a mark.
-use crate::includes::is_late;
-use crate::tallies::{SEEN, STOPPED, VAGUE};
+// The definitions that the walk met, noted in the order of files and lines.
+use crate::includes::{Inclusion, is_late};
 use definition::{extent_at, head_at};
 use directive::{Word, word_at, word_start};
 use lex::{ESCAPED, NAME, Token, in_definition, token_at};
-use names::{DEFINE, UNDEFINE_ALL};
+use names::{DEFINE, UNDEF, UNDEFINE_ALL};
 use places::newlines_in;
-use plan::{count_up, get, put, sum, to_u32, wide};
-use spots::{Spot, body_of};
+use plan::Sources;
+use spots::{Place, Spot};
+use std::alloc::AllocError;
 use text::{part_of, peek};
 
-// The marks of a note.
-pub const OPEN: u32 = 0;
+// What a directive does to macros.
+#[derive(Clone, Copy, PartialEq, Eq)]
+pub enum Action {
+    Define,
+    Undefine,
+    UndefineAll,
+}
 
-// its warning is written
-pub const TOLD: u32 = 1;
+// How a note stands.
+#[derive(Clone, Copy, PartialEq, Eq)]
+pub enum Mark {
+    Open,
+    // its warning is written
+    Told,
+    // it is on the first line of its file
+    First,
+    // it may be carried out without a trace in the map
+    Forgone,
+}
 
-// it stands on the first line of its file
-const FIRST: u32 = 2;
+// A directive: the line whose place in the map shows that it was carried out, its first byte, what it does, and its mark.
+#[derive(Clone, Copy)]
+pub struct Note {
+    pub place: Place,
+    pub at: usize,
+    pub action: Action,
+    pub mark: Mark,
+}
+
+// What the walk notes.
+#[derive(Drop)]
+pub struct Notes<'a> {
+    pub list: Vec<Note>,
+    // the names of macros of which nothing is said
+    pub vague: Vec<&'a [u8]>,
+    // the notes do not tell enough
+    pub stopped: bool,
+    // how each file is included
+    pub inclusions: Vec<Inclusion>,
+}
+
+// The most notes, and the most vague names.
+const MOST_NOTES: usize = 8192;
+
+const MOST_VAGUE: usize = 256;
 
 // A part of a file.
 #[derive(Clone, Copy)]
-pub struct Range {
-    pub from: usize,
-    pub end: usize,
+struct Part {
+    from: usize,
+    end: usize,
+}
+
+// What the directive `d` does to macros, if it does.
+pub fn action_of(d: usize) -> Option<Action> {
+    match d {
+        DEFINE => Some(Action::Define),
+        UNDEF => Some(Action::Undefine),
+        UNDEFINE_ALL => Some(Action::UndefineAll),
+        _ => None,
+    }
 }
 
 // Where the word of the directive at `at` ends.
-pub fn word_end(body: &[u8], at: usize) -> usize {
-    let t = token_at(body, at, in_definition(false));
-    t.end
+fn word_end(body: &[u8], at: usize) -> usize {
+    token_at(body, at, in_definition(false)).end
 }
 
-fn undef_name(body: &[u8], at: usize) -> Range {
-    let w = word_at(body, at);
-    match w {
-        Word::Found(t) => {
-            if (t.kind == NAME) | (t.kind == ESCAPED) {
-                return Range {
-                    from: t.from,
-                    end: t.end,
-                };
-            }
-            Range { from: 0, end: 0 }
+fn nonempty(from: usize, end: usize) -> Option<Part> {
+    if from < end {
+        Some(Part { from, end })
+    } else {
+        None
+    }
+}
+
+fn undef_name(body: &[u8], at: usize) -> Option<Part> {
+    match word_at(body, at) {
+        Word::Found(t) if (t.kind == NAME) | (t.kind == ESCAPED) => nonempty(t.from, t.end),
+        _ => None,
+    }
+}
+
+// The macro's name in a directive whose word ends at `at`, if it has one; empty where it is about all macros.
+fn name_in(body: &[u8], at: usize, action: Action) -> Option<Part> {
+    match action {
+        Action::UndefineAll => Some(Part { from: at, end: at }),
+        Action::Define => {
+            let head = head_at(body, at);
+            nonempty(head.from, head.end)
         }
-        Word::Missing => Range { from: 0, end: 0 },
-        Word::Barred(_, _) => Range { from: 0, end: 0 },
+        Action::Undefine => undef_name(body, at),
     }
 }
 
-// The macro's name in the directive `d`, whose word ends at `at`; empty where it has none.
-pub fn name_in(body: &[u8], at: usize, d: usize) -> Range {
-    if d == UNDEFINE_ALL {
-        return Range { from: at, end: at };
-    }
-    if d == DEFINE {
-        let h = head_at(body, at);
-        return Range {
-            from: h.from,
-            end: h.end,
-        };
-    }
-    undef_name(body, at)
-}
-
-// Where the line of the directive `d` ends, whose word ends at `at` and whose name ends at `end`, if nothing else follows.
-fn line_end(body: &[u8], at: usize, d: usize, end: usize) -> usize {
-    if d == DEFINE {
-        let w = extent_at(body, at);
-        return w.end;
+// Where the line of a directive ends, whose word ends at `at` and whose name ends at `end`, if nothing else follows.
+fn line_end(body: &[u8], at: usize, action: Action, end: usize) -> usize {
+    if action == Action::Define {
+        return extent_at(body, at).end;
     }
     word_start(body, end)
 }
@@ -79,121 +118,96 @@ fn key_of(body: &[u8], z: Spot, at: usize, end: usize) -> usize {
     if at != z.start {
         return z.line;
     }
-    sum(z.line, newlines_in(part_of(body, at, end)))
+    z.line.saturating_add(newlines_in(part_of(body, at, end)))
 }
 
-fn mark_of(z: Spot) -> u32 {
-    if z.line == 1 { FIRST } else { OPEN }
+impl Note {
+    // Where the word of the directive ends.
+    pub fn word_end(self, sources: &Sources) -> usize {
+        word_end(sources.body(self.place.file), self.at)
+    }
+
+    // The name of its macro.
+    pub fn name(self, sources: &Sources) -> &[u8] {
+        let body = sources.body(self.place.file);
+        match name_in(body, word_end(body, self.at), self.action) {
+            Some(name) => part_of(body, name.from, name.end),
+            None => b"",
+        }
+    }
 }
 
-fn add_note(seen: &mut [[u32; 5]], tallies: &mut [usize], row: [u32; 5]) {
-    let n = get(tallies, SEEN);
-    if seen.len() <= n {
-        put(tallies, STOPPED, 1);
-        return;
+impl<'a> Notes<'a> {
+    fn add(&mut self, note: Note) -> Result<(), AllocError> {
+        if MOST_NOTES <= self.list.len() {
+            self.stopped = true;
+            return Ok(());
+        }
+        self.list.push(note)?;
+        Ok(())
     }
-    seen[n] = row;
-    count_up(tallies, SEEN);
-}
 
-fn add_vague(vague: &mut [[u32; 3]], tallies: &mut [usize], row: [u32; 3]) {
-    let n = get(tallies, VAGUE);
-    if vague.len() <= n {
-        put(tallies, STOPPED, 1);
-        return;
+    // A directive with that name may be carried out without a trace in the map: nothing is said of its macro.
+    fn forgo(&mut self, name: &'a [u8], action: Action) -> Result<(), AllocError> {
+        if (action == Action::UndefineAll) | (MOST_VAGUE <= self.vague.len()) {
+            self.stopped = true;
+            return Ok(());
+        }
+        self.vague.push(name)?;
+        Ok(())
     }
-    vague[n] = row;
-    count_up(tallies, VAGUE);
-}
 
-// The directive `d` may be carried out without a trace in the map: nothing is said of its macro.
-fn forgo(vague: &mut [[u32; 3]], tallies: &mut [usize], file: usize, name: Range, d: usize) {
-    if d == UNDEFINE_ALL {
-        put(tallies, STOPPED, 1);
-        return;
+    // Notes the directive at `z`, the token `t`.
+    pub fn note(
+        &mut self,
+        body: &'a [u8],
+        z: Spot,
+        t: Token,
+        action: Action,
+    ) -> Result<(), AllocError> {
+        let Some(name) = name_in(body, t.end, action) else {
+            return Ok(());
+        };
+        let end = line_end(body, t.end, action, name.end);
+        if !z.fresh | (peek(body, end) != b'\n') {
+            return self.forgo(part_of(body, name.from, name.end), action);
+        }
+        let line = key_of(body, z, t.at, end);
+        self.add(Note {
+            place: Place { file: z.file, line },
+            at: t.at,
+            action,
+            mark: if z.line == 1 { Mark::First } else { Mark::Open },
+        })
     }
-    add_vague(
-        vague,
-        tallies,
-        [to_u32(file), to_u32(name.from), to_u32(name.end)],
-    );
-}
 
-// Notes the directive `d` at `z`, the token `t`.
-pub fn note(
-    body: &[u8],
-    z: Spot,
-    t: Token,
-    d: usize,
-    seen: &mut [[u32; 5]],
-    vague: &mut [[u32; 3]],
-    tallies: &mut [usize],
-) {
-    let name = name_in(body, t.end, d);
-    if (d != UNDEFINE_ALL) & (name.end <= name.from) {
-        return;
+    pub fn set_mark(&mut self, i: usize, mark: Mark) {
+        if let Some(note) = self.list.get_mut(i) {
+            note.mark = mark;
+        }
     }
-    let end = line_end(body, t.end, d, name.end);
-    if !z.fresh | (peek(body, end) != 10) {
-        forgo(vague, tallies, z.file, name, d);
-        return;
-    }
-    let key = key_of(body, z, t.at, end);
-    add_note(
-        seen,
-        tallies,
-        [
-            to_u32(z.file),
-            to_u32(key),
-            to_u32(t.at),
-            to_u32(d),
-            mark_of(z),
-        ],
-    );
-}
 
-// Forgoes note `i` where it stands on the first line of a late file.
-fn settle_note(
-    store: &[u8],
-    table: &[[u32; 5]],
-    late: &[[u32; 2]],
-    i: usize,
-    seen: &mut [[u32; 5]],
-    vague: &mut [[u32; 3]],
-    tallies: &mut [usize],
-) {
-    if seen.len() <= i {
-        return;
+    // Forgoes note `i` where it stands on the first line of a late file.
+    fn settle_note(&mut self, sources: &'a Sources, i: usize) -> Result<(), AllocError> {
+        let Some(note) = self.list.get(i).copied() else {
+            return Ok(());
+        };
+        if note.mark != Mark::First {
+            return Ok(());
+        }
+        if !is_late(self.inclusions.as_slice(), note.place.file) {
+            self.set_mark(i, Mark::Open);
+            return Ok(());
+        }
+        self.set_mark(i, Mark::Forgone);
+        self.forgo(note.name(sources), note.action)
     }
-    let v = seen[i];
-    if v[4] != FIRST {
-        return;
-    }
-    let file = wide(v[0]);
-    if !is_late(late, file) {
-        seen[i] = [v[0], v[1], v[2], v[3], OPEN];
-        return;
-    }
-    seen[i] = [v[0], v[1], v[2], 0, OPEN];
-    let body = body_of(store, table, file);
-    let d = wide(v[3]);
-    let name = name_in(body, word_end(body, wide(v[2])), d);
-    forgo(vague, tallies, file, name, d);
-}
 
-// Settles all notes, once it is known which files are late.
-pub fn settle_notes(
-    store: &[u8],
-    table: &[[u32; 5]],
-    late: &[[u32; 2]],
-    seen: &mut [[u32; 5]],
-    vague: &mut [[u32; 3]],
-    tallies: &mut [usize],
-) {
-    let n = get(tallies, SEEN);
-    let mut i = 0;
-    while i < n {
-        settle_note(store, table, late, i, seen, vague, tallies);
-        i += 1;
+    // Settles all notes, once it is known which files are late.
+    pub fn settle(&mut self, sources: &'a Sources) -> Result<(), AllocError> {
+        for i in 0..self.list.len() {
+            self.settle_note(sources, i)?;
+        }
+        Ok(())
     }
 }

@@ -2,10 +2,13 @@
 // written; a device and what standard output and standard error stand for are written to as they are.
 #![tactic(auto)]
 
-mod opening;
-mod placing;
+mod aside;
+mod output_file;
+mod paths;
+mod sink;
 mod targets;
 
-pub use opening::{Sink, close_output, open_output};
-pub use placing::{drop_output, is_repeatable, place_output, set_aside, stands};
+pub use aside::set_aside;
+pub use output_file::OutputFile;
+pub use sink::Sink;
 pub use targets::{is_standard, names_one, overwrites};

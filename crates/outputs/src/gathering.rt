@@ -1,35 +1,81 @@
-// Bytes gathered in a buffer of 65,536 and written out when it is full.
-use plan::{append, less};
+// A writer that gathers bytes, up to 65,536 of them, before it writes them.
+ghost use Rattle.std.specs.Prelude.{◌≤◌};
+
 use std::io::{Result, Write};
-use text::part_of;
 
-// Writes out the first `n` bytes of `out`.
-pub fn flush(to: &mut impl Write, out: &[u8], n: usize) -> Result<()> {
-    to.write_all(part_of(out, 0, n))
+#[derive(Drop)]
+struct Held {
+    bytes: [u8; 65536],
+    length: usize,
+    ghost inside: { length ≤ 65536 },
 }
 
-// Gathers `w` behind the first `n` bytes of `out`, which are written out before it where it has no room; how many there are
-// then.
-pub fn pour(to: &mut impl Write, out: &mut [u8], n: usize, w: &[u8]) -> Result<usize> {
-    if w.len() <= less(out.len(), n) {
-        return Ok(append(out, n, w));
+impl Held {
+    // Puts `w` behind what is held, where it has room; whether it has.
+    fn put(&mut self, w: &[u8]) -> bool {
+        if w.len() > self.bytes.len() - self.length {
+            return false;
+        }
+        let end = self.length + w.len();
+        self.bytes[self.length..end].copy_from_slice(w);
+        self.length = end;
+        true
     }
-    flush(to, out, n)?;
-    if w.len() <= out.len() {
-        return Ok(append(out, 0, w));
+
+    fn as_slice(&self) -> &[u8] {
+        &self.bytes[..self.length]
     }
-    to.write_all(w)?;
-    Ok(0)
+
+    fn clear(&mut self) {
+        self.length = 0;
+    }
 }
 
-pub fn pour_number(to: &mut impl Write, out: &mut [u8], n: usize, x: usize) -> Result<usize> {
-    let mut digits = [0u8; 20];
-    let k = io::decimal(x as u64, &mut digits);
-    pour(to, out, n, &digits[..k])
+#[derive(Drop)]
+pub struct Gathering<'a, W> {
+    to: &'a mut W,
+    held: Held,
 }
 
-// A number and a space.
-pub fn pour_field(to: &mut impl Write, out: &mut [u8], n: usize, x: usize) -> Result<usize> {
-    let a = pour_number(to, out, n, x)?;
-    pour(to, out, a, b" ")
+impl<'a, W: Write> Gathering<'a, W> {
+    pub fn new(to: &'a mut W) -> Gathering<'a, W> {
+        Gathering {
+            to,
+            held: Held {
+                bytes: [0; 65536],
+                length: 0,
+            },
+        }
+    }
+
+    // Gathers `w` behind what is held, which is written before it where it has no room.
+    pub fn bytes(&mut self, w: &[u8]) -> Result<()> {
+        if self.held.put(w) {
+            return Ok(());
+        }
+        self.write_held()?;
+        if self.held.put(w) {
+            return Ok(());
+        }
+        self.to.write_all(w)
+    }
+
+    pub fn number(&mut self, x: usize) -> Result<()> {
+        let mut digits = [0u8; 20];
+        let n = io::decimal(x as u64, &mut digits);
+        self.bytes(&digits[..n])
+    }
+
+    // A number and a space.
+    pub fn field(&mut self, x: usize) -> Result<()> {
+        self.number(x)?;
+        self.bytes(b" ")
+    }
+
+    // Writes what is held.
+    pub fn write_held(&mut self) -> Result<()> {
+        self.to.write_all(self.held.as_slice())?;
+        self.held.clear();
+        Ok(())
+    }
 }

@@ -1,95 +1,31 @@
-// What the command does with the files that it read. Each answer is a digit.
+// What the command does with the files that it read.
 #![tactic(auto)]
 
-use answers::{DONE, Left, REFUSED, answer_macros, fail_output, finish};
-use flattening::flatten_found;
-use messages::say_refusal;
-use options::{FLATTEN, PASS};
-use plan::{COMMAND, ENTRY, NAME, SET, get, range_at};
-use refusals::body_at;
+use answers::{Answer, answer_macros, fail_output, finish, words_of};
+use flattening::{Buffers, flatten_found};
+use messages::Failure;
+use plan::{Command, Plan, Sources};
 
-// Flattens into a text and a map of its own, and finishes. It keeps a frame of its own, so that its 3 MiB are free before pass takes
-// 5.
-#[inline(never)]
-fn flatten_files(
-    rt: &HostRuntime,
-    write: bool,
-    line: &[u8],
-    rows: &[[u32; 5]],
-    plan: &mut [usize],
-    store: &mut [u8],
-    table: &mut [[u32; 5]],
-    paths: &mut [[u32; 3]],
-    starts: &[[u32; 2]],
-    bytes: &mut [u8],
-) -> Left {
-    let mut text = [0u8; 2097152];
-    let mut map = [0u32; 131072];
-    let o = flatten_found(
-        rt, line, rows, plan, store, table, paths, starts, &mut text, &mut map, bytes,
-    );
-    finish(
-        rt, o, write, line, rows, plan, store, table, paths, starts, &text, &map, bytes,
-    )
+// Flattens, and answers what is asked: pass and look up where the flattening was not refused.
+pub fn perform(rt: &HostRuntime, plan: &Plan, sources: &mut Sources) -> Result<Answer, Failure> {
+    let mut buffers = Buffers::new(rt.alloc())?;
+    let own = flatten_found(rt, plan, sources, &mut buffers)?;
+    let answer = finish(rt, plan, sources, &buffers, &own)?;
+    if (plan.command == Command::Flatten) | (answer != Answer::Done) {
+        return Ok(answer);
+    }
+    answer_macros(rt, plan, buffers.bytes.as_slice(), &own.records)
 }
 
-// Pass or look up, where the flattening was not refused.
-fn answer_left(rt: &HostRuntime, left: Left, command: usize, name: &[u8], bytes: &[u8]) -> u8 {
-    if left.digit != DONE {
-        return left.digit;
-    }
-    let records = left.records;
-    if command == PASS {
-        return answer_macros(rt, PASS, b"", bytes, records);
-    }
-    answer_macros(rt, command, name, bytes, records)
-}
-
-// Flattens, and answers what is asked.
-pub fn perform(
-    rt: &HostRuntime,
-    line: &[u8],
-    rows: &[[u32; 5]],
-    plan: &mut [usize],
-    store: &mut [u8],
-    table: &mut [[u32; 5]],
-    paths: &mut [[u32; 3]],
-    starts: &[[u32; 2]],
-    bytes: &mut [u8],
-) -> u8 {
-    let command = get(plan, COMMAND);
-    if command == FLATTEN {
-        let flat = flatten_files(
-            rt, true, line, rows, plan, store, table, paths, starts, bytes,
-        );
-        return flat.digit;
-    }
-    let left = flatten_files(
-        rt, false, line, rows, plan, store, table, paths, starts, bytes,
-    );
-    answer_left(rt, left, command, range_at(line, plan, NAME), bytes)
-}
-
-// The words of the one file, whatever its size. It keeps a frame of its own, which is not there while files are flattened.
-#[inline(never)]
-pub fn list_words(
-    rt: &HostRuntime,
-    plan: &[usize],
-    store: &[u8],
-    table: &[[u32; 5]],
-    paths: &[[u32; 3]],
-) -> u8 {
-    let mut words = [[0u32; 3]; 131072];
-    let k = get(plan, ENTRY);
-    let body = body_at(store, table, k);
-    let c = classify::classify(body, (get(plan, SET) % 4) as u32, &mut words);
-    if c.number != 0 {
-        let path = plan::path_at(store, paths, k);
-        say_refusal(path, body, c.number, c.line, c.byte);
-        return REFUSED;
-    }
-    match outputs::write_words(&mut rt.stdout(), body, &words, c.words) {
-        Ok(()) => DONE,
-        Err(error) => fail_output(error),
+// The words of the one file, whatever its size.
+pub fn list_words(rt: &HostRuntime, plan: &Plan, sources: &Sources) -> Result<Answer, Failure> {
+    let k = sources.root_entry();
+    let body = sources.body(k);
+    let Some(words) = words_of(rt.alloc(), plan, sources.path(k), body)? else {
+        return Ok(Answer::Refused);
+    };
+    match outputs::write_words(&mut rt.stdout(), body, words.as_slice()) {
+        Ok(()) => Ok(Answer::Done),
+        Err(error) => Err(fail_output(error)),
     }
 }

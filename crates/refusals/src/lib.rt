@@ -4,92 +4,59 @@
 use flatten::Flattened;
 use handover::is_sound;
 use messages::{complain, say, say_number, say_refusal, say_refused};
-use plan::path_at;
-use text::part_of;
+use plan::Sources;
 
-// The bytes of file `k`.
-pub fn body_at<'a>(store: &'a [u8], table: &[[u32; 5]], k: usize) -> &'a [u8] {
-    if table.len() <= k {
-        return part_of(store, 0, 0);
-    }
-    handover::body_at(store, table, k)
-}
-
-// The first file that is not taken by itself, or how many there are.
-fn bad_file(store: &[u8], table: &[[u32; 5]], none: &[[u32; 2]]) -> usize {
-    let n = table.len();
-    let mut k = 0;
-    while k < n {
-        if !is_sound(store, &table[k..k + 1], 0, none, 3, 0, 0, 0) {
-            return k;
+// The first file that is not taken by itself.
+fn bad_file(sources: &Sources) -> Option<usize> {
+    let store = sources.store.as_slice();
+    for (k, entry) in sources.table.as_slice().chunks(1).enumerate() {
+        if !is_sound(store, entry, 0, &[], 3, 0, 0, 0) {
+            return Some(k);
         }
-        k += 1;
     }
-    k
+    None
 }
 
-// The first start macro that is not taken behind those before it, or how many there are.
-fn bad_start(store: &[u8], table: &[[u32; 5]], starts: &[[u32; 2]]) -> usize {
-    let n = starts.len();
-    let mut k = 0;
-    while k < n {
-        if !is_sound(store, table, 0, &starts[0..k + 1], 3, 0, 256, 65536) {
-            return k;
+// The first start macro that is not taken behind those before it.
+fn bad_start(sources: &Sources) -> Option<usize> {
+    let store = sources.store.as_slice();
+    let table = sources.table.as_slice();
+    let starts = sources.starts.as_slice();
+    for k in 0..starts.len() {
+        if !is_sound(store, table, 0, &starts[..k + 1], 3, 0, 256, 65536) {
+            return Some(k);
         }
-        k += 1;
     }
-    k
-}
-
-fn start_at<'a>(store: &'a [u8], starts: &[[u32; 2]], k: usize) -> &'a [u8] {
-    if starts.len() <= k {
-        return part_of(store, 0, 0);
-    }
-    let v = starts[k];
-    plan::range_of(store, v[0], v[1])
+    None
 }
 
 // Refusal 1: which file or start macro is not taken.
-fn refuse_handed(store: &[u8], table: &[[u32; 5]], paths: &[[u32; 3]], starts: &[[u32; 2]]) {
-    let k = bad_file(store, table, &starts[0..0]);
-    if k < table.len() {
+fn refuse_handed(sources: &Sources) {
+    if let Some(k) = bad_file(sources) {
         complain(
-            path_at(store, paths, k),
+            sources.path(k),
             b"a file has at most 65,535 bytes, and its name 1 to 255 printing bytes, no quote, \\ or >",
         );
         return;
     }
-    let m = bad_start(store, table, starts);
-    if m < starts.len() {
+    if let Some(k) = bad_start(sources) {
         complain(
-            start_at(store, starts, m),
+            sources.start(k),
             b"-D takes a macro's name, no directive's, once, or NAME=VALUE",
         );
     }
 }
 
 // A refusal: where, what it means, and the source line.
-pub fn refuse(
-    r: Flattened,
-    store: &[u8],
-    table: &[[u32; 5]],
-    paths: &[[u32; 3]],
-    starts: &[[u32; 2]],
-) {
+pub fn refuse(r: Flattened, sources: &Sources) {
     if r.number == 1 {
         say(b"arborstitch: ");
         say_refused(1);
-        refuse_handed(store, table, paths, starts);
+        refuse_handed(sources);
         return;
     }
-    let f = r.file;
-    say_refusal(
-        path_at(store, paths, f),
-        body_at(store, table, f),
-        r.number,
-        r.line,
-        r.byte,
-    );
+    let (path, body) = (sources.path(r.file), sources.body(r.file));
+    say_refusal(path, body, r.number, r.line, r.byte);
 }
 
 // One line at the end.

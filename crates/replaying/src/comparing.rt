@@ -4,7 +4,7 @@ ghost use Rattle.std.specs.Prelude.{◌<◌};
 use definition::{extent_at, head_at};
 use lex::{END, Token, in_definition, is_gap, marks_after, token_at};
 use spots::past;
-use text::{part_of, same};
+use text::part_of;
 
 // The first token from `at` on that is no spacing.
 fn next_token(s: &[u8], at: usize, marks: bool) -> Token {
@@ -30,15 +30,14 @@ fn same_tokens(a: &[u8], b: &[u8]) -> bool {
         if t.kind == END {
             return u.kind == END;
         }
-        if !same(part_of(a, t.at, t.end), part_of(b, u.at, u.end)) {
+        if part_of(a, t.at, t.end) != part_of(b, u.at, u.end) {
             return false;
         }
         marks = marks_after(marks, t);
         i = past(a, i, t.end);
         j = u.end;
     }
-    let u = next_token(b, j, marks);
-    u.kind == END
+    next_token(b, j, marks).kind == END
 }
 
 // Whether two definitions, whose words end at `i` and `j`, have the same formals and text.

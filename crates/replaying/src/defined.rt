@@ -1,101 +1,74 @@
-// The macros now defined. A row has the file of its name and 1, or 0 for a name of the command line; the name's range there;
-// and the note of its definition and 1, or 0.
-use noting::tallies::{DEFINED, STOPPED};
-use plan::{MACRO, count_up, get, has_value, kind_at, less, put, row_at, to_u32, wide};
-use spots::body_of;
-use text::{part_of, peek, same};
+// The macros now defined.
+use plan::{Item, Plan};
+use std::alloc::{AllocError, Global};
 
-pub fn defined_at(defined: &[[u32; 4]], j: usize) -> [u32; 4] {
-    if defined.len() <= j {
-        return [0, 0, 0, 0];
-    }
-    defined[j]
+// The most macros that are kept.
+const MOST: usize = 512;
+
+// A macro: its name, and the number of the note that defines it, if no `-D` does.
+#[derive(Clone, Copy)]
+pub struct Macro<'a> {
+    pub name: &'a [u8],
+    pub note: Option<usize>,
 }
 
-// Whether the macro of row `v` has that name.
-pub fn is_named(store: &[u8], table: &[[u32; 5]], line: &[u8], v: [u32; 4], name: &[u8]) -> bool {
-    if v[0] == 0 {
-        return same(name, part_of(line, wide(v[1]), wide(v[2])));
-    }
-    let body = body_of(store, table, less(wide(v[0]), 1));
-    same(name, part_of(body, wide(v[1]), wide(v[2])))
+// The macros, and whether there were too many to keep.
+#[derive(Drop)]
+pub struct Defined<'a> {
+    list: Vec<Macro<'a>>,
+    pub full: bool,
 }
 
-// Where the macro of that name stands among the first `n`; `n` where it does not.
-pub fn find_macro(
-    store: &[u8],
-    table: &[[u32; 5]],
-    line: &[u8],
-    defined: &[[u32; 4]],
-    n: usize,
-    name: &[u8],
-) -> usize {
-    let mut j = 0;
-    while j < n {
-        if is_named(store, table, line, defined_at(defined, j), name) {
-            return j;
+impl<'a> Defined<'a> {
+    // Those of the command line that have no value.
+    pub fn start(alloc: Global, plan: &'a Plan) -> Result<Defined<'a>, AllocError> {
+        let mut defined = Defined {
+            list: Vec::new(alloc),
+            full: false,
+        };
+        for item in plan.items.iter() {
+            if let Item::Macro(given) = item {
+                if given.value().is_none() {
+                    defined.add(Macro {
+                        name: given.plain_name(),
+                        note: None,
+                    })?;
+                }
+            }
         }
-        j += 1;
+        Ok(defined)
     }
-    n
-}
 
-pub fn add_macro(defined: &mut [[u32; 4]], tallies: &mut [usize], v: [u32; 4]) {
-    let n = get(tallies, DEFINED);
-    if defined.len() <= n {
-        put(tallies, STOPPED, 1);
-        return;
+    // Where the macro of that name stands.
+    pub fn find(&self, name: &[u8]) -> Option<usize> {
+        self.list.iter().position(|known| known.name == name)
     }
-    defined[n] = v;
-    count_up(tallies, DEFINED);
-}
 
-pub fn put_macro(defined: &mut [[u32; 4]], j: usize, v: [u32; 4]) {
-    if defined.len() <= j {
-        return;
+    pub fn add(&mut self, new: Macro<'a>) -> Result<(), AllocError> {
+        if MOST <= self.list.len() {
+            self.full = true;
+            return Ok(());
+        }
+        self.list.push(new)?;
+        Ok(())
     }
-    defined[j] = v;
-}
 
-// Removes macro `j`: the last one takes its row.
-pub fn remove_macro(defined: &mut [[u32; 4]], tallies: &mut [usize], j: usize) {
-    let last = less(get(tallies, DEFINED), 1);
-    put_macro(defined, j, defined_at(defined, last));
-    put(tallies, DEFINED, last);
-}
+    // Note `k` now defines macro `j`; what defined it before.
+    pub fn redefine(&mut self, j: usize, k: usize) -> Option<usize> {
+        match self.list.get_mut(j) {
+            Some(known) => known.note.replace(k),
+            None => None,
+        }
+    }
 
-// Adds the macro of row `i`, if it is one without a value.
-pub fn start_macro(
-    line: &[u8],
-    rows: &[[u32; 5]],
-    i: usize,
-    defined: &mut [[u32; 4]],
-    tallies: &mut [usize],
-) {
-    if kind_at(rows, i) != MACRO {
-        return;
+    // Removes macro `j`: the last one takes its place.
+    pub fn remove(&mut self, j: usize) {
+        if j < self.list.len() {
+            self.list.swap_remove(j);
+        }
     }
-    if has_value(line, rows, i) {
-        return;
-    }
-    let v = row_at(rows, i);
-    if peek(line, wide(v[1])) == 92 {
-        add_macro(defined, tallies, [0, to_u32(wide(v[1]) + 1), v[3], 0]);
-        return;
-    }
-    add_macro(defined, tallies, [0, v[1], v[3], 0]);
-}
 
-pub fn start_macros(
-    line: &[u8],
-    rows: &[[u32; 5]],
-    count: usize,
-    defined: &mut [[u32; 4]],
-    tallies: &mut [usize],
-) {
-    let mut i = 0;
-    while i < count {
-        start_macro(line, rows, i, defined, tallies);
-        i += 1;
+    pub fn clear(&mut self) {
+        self.list.clear();
     }
 }

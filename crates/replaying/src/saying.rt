@@ -1,7 +1,6 @@
 // The words of warnings with a place.
 use messages::{say, say_number};
-use plan::sum;
-use text::peek;
+use text::part_of;
 
 // `FILE:LINE:COLUMN: warning: `
 pub fn say_place(path: &[u8], line: usize, column: usize) {
@@ -13,19 +12,13 @@ pub fn say_place(path: &[u8], line: usize, column: usize) {
     say(b": warning: ");
 }
 
-fn column_after(column: usize, b: u8) -> usize {
-    if b == 10 { 1 } else { sum(column, 1) }
-}
-
 // The column of the byte at `at`, from 1.
 fn column_at(s: &[u8], at: usize) -> usize {
-    let mut column = 1;
-    let mut i = 0;
-    while i < at {
-        column = column_after(column, peek(s, i));
-        i += 1;
+    let before = part_of(s, 0, at);
+    match before.iter().rposition(|b| *b == b'\n') {
+        Some(newline) => before.len() - newline,
+        None => before.len() + 1,
     }
-    column
 }
 
 // The place of the byte at `at` of a file.

@@ -1,112 +1,72 @@
 // The command from its arguments to its answer: help, or the plan checked and carried out.
 #![tactic(auto)]
 
-use answers::{DONE, FAILED, GONE, said};
+use answers::{Answer, said};
 use command_line::read_words;
-use messages::{WRAPPER, complain};
-use options::{CLASSIFY, SHOW_HELP, SHOW_VERSION};
+use delivery::set_all_aside;
+use messages::{Failure, WRAPPER, complain};
 use performing::{list_words, perform};
-use plan::{CLASH, COMMAND, get};
+use plan::{Command, Plan, Sources};
 use plan_checks::check_plan;
 use sources::{make_entry, read_all};
 
 // Reads the files and does what is asked with them.
-fn run(
-    rt: &HostRuntime,
-    line: &[u8],
-    rows: &[[u32; 5]],
-    plan: &mut [usize],
-    store: &mut [u8],
-    table: &mut [[u32; 5]],
-    paths: &mut [[u32; 3]],
-    starts: &mut [[u32; 2]],
-    bytes: &mut [u8],
-) -> u8 {
-    if !read_all(rt, line, rows, plan, store, table, paths, starts) {
-        return FAILED;
+fn run(rt: &HostRuntime, plan: &Plan, sources: &mut Sources) -> Result<Answer, Failure> {
+    read_all(rt, plan, sources)?;
+    match plan.command {
+        Command::Classify => list_words(rt, plan, sources),
+        _ => perform(rt, plan, sources),
     }
-    if get(plan, COMMAND) == CLASSIFY {
-        return list_words(rt, plan, store, table, paths);
-    }
-    perform(rt, line, rows, plan, store, table, paths, starts, bytes)
 }
 
 // Carries out a plan: one that cannot be carried out touches nothing; a run that does not succeed leaves no outputs.
-fn carry_out(
-    rt: &HostRuntime,
-    line: &[u8],
-    rows: &[[u32; 5]],
-    plan: &mut [usize],
-    store: &mut [u8],
-    table: &mut [[u32; 5]],
-    paths: &mut [[u32; 3]],
-    starts: &mut [[u32; 2]],
-    bytes: &mut [u8],
-) -> u8 {
-    if !check_plan(rt, line, rows, plan) {
-        return FAILED;
+fn carry_out(rt: &HostRuntime, plan: &Plan) -> Result<Answer, Failure> {
+    check_plan(rt, plan)?;
+    let mut sources = Sources::new(rt.alloc());
+    make_entry(plan, &mut sources)?;
+    let answered = run(rt, plan, &mut sources);
+    match answered {
+        Ok(Answer::Done) => {}
+        Err(Failure::Gone) => {}
+        Err(Failure::Clash) => {}
+        _ => set_all_aside(rt, plan),
     }
-    if !make_entry(line, rows, plan, store, table, paths) {
-        return FAILED;
-    }
-    let digit = run(rt, line, rows, plan, store, table, paths, starts, bytes);
-    if (digit != DONE) & (digit != GONE) & (get(plan, CLASH) == 0) {
-        delivery::set_all_aside(rt, line, plan);
-    }
-    digit
+    answered
 }
 
-// Carries out a plan with tables of its own.
-fn answer_plan(
-    rt: &HostRuntime,
-    line: &[u8],
-    rows: &[[u32; 5]],
-    plan: &mut [usize],
-    store: &mut [u8],
-    bytes: &mut [u8],
-) -> u8 {
-    let mut table = [[0u32; 5]; 64];
-    let mut paths = [[0u32; 3]; 64];
-    let mut starts = [[0u32; 2]; 257];
-    carry_out(
-        rt,
-        line,
-        rows,
-        plan,
-        store,
-        &mut table,
-        &mut paths,
-        &mut starts,
-        bytes,
-    )
+// Does what the command line asks.
+fn answer_plan(rt: &HostRuntime, plan: &Plan) -> Result<Answer, Failure> {
+    match plan.command {
+        Command::Help => said(help::print_help(&mut rt.stdout())),
+        Command::Version => said(help::print_version(&mut rt.stdout())),
+        _ => {
+            if identity::of_descriptor(rt, WRAPPER).is_none() {
+                complain(
+                    b"run bin/arborstitch",
+                    b"this program alone has no exit status",
+                );
+                return Err(Failure::Told);
+            }
+            carry_out(rt, plan)
+        }
+    }
 }
 
 // Reads the command line and does what it asks.
-pub fn answer(
-    rt: &HostRuntime,
-    line: &mut [u8],
-    words: &mut [[u32; 2]],
-    rows: &mut [[u32; 5]],
-    plan: &mut [usize],
-    store: &mut [u8],
-    bytes: &mut [u8],
-) -> u8 {
-    if !read_words(rt, line, words, rows, plan) {
-        return FAILED;
+fn run_command(rt: &HostRuntime) -> Result<Answer, Failure> {
+    let plan = read_words(rt, rt.alloc())?;
+    answer_plan(rt, &plan)
+}
+
+// The answer of the whole command.
+pub fn answer(rt: &HostRuntime) -> Answer {
+    match run_command(rt) {
+        Ok(answer) => answer,
+        Err(Failure::Gone) => Answer::Gone,
+        Err(Failure::Memory) => {
+            complain(b"the command", b"out of memory");
+            Answer::Failed
+        }
+        Err(_) => Answer::Failed,
     }
-    if get(plan, COMMAND) == SHOW_HELP {
-        return said(help::print_help(&mut rt.stdout()));
-    }
-    if get(plan, COMMAND) == SHOW_VERSION {
-        return said(help::print_version(&mut rt.stdout()));
-    }
-    let heard = identity::of_descriptor(rt, WRAPPER);
-    if !heard.found {
-        complain(
-            b"run bin/arborstitch",
-            b"this program alone has no exit status",
-        );
-        return FAILED;
-    }
-    answer_plan(rt, line, rows, plan, store, bytes)
 }

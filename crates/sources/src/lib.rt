@@ -6,96 +6,63 @@ mod adding;
 mod making;
 
 pub use adding::read_found;
-use adding::{add_file, add_start, is_root};
+use adding::{add_file, add_start};
 pub use making::make_entry;
-use messages::complain;
-use plan::{FILES, FOLDER, LIST, MACRO, MADE, ROWS, file_kind, get, has_value, kind_at, path_at};
+use messages::{Failure, complain};
+use plan::{FileKind, Item, Plan, Sources};
 use std::io::Input;
 use std::rt::Files;
-use text::same;
 
-// Reads what row `i` names.
-fn read_row(
-    rt: &(impl Files + Input),
-    i: usize,
-    line: &[u8],
-    rows: &[[u32; 5]],
-    plan: &mut [usize],
-    store: &mut [u8],
-    table: &mut [[u32; 5]],
-    paths: &mut [[u32; 3]],
-    starts: &mut [[u32; 2]],
-) -> bool {
-    let kind = kind_at(rows, i);
-    if kind == MACRO {
-        if has_value(line, rows, i) {
-            return true;
-        }
-        return add_start(plan::word_at(line, rows, i), plan, store, starts);
+// Reads what an item names.
+fn read_item(rt: &(impl Files + Input), item: &Item, sources: &mut Sources) -> Result<(), Failure> {
+    match item {
+        Item::File(file) => add_file(rt, file, sources),
+        Item::Macro(given) if given.value().is_none() => add_start(given.name(), sources),
+        _ => Ok(()),
     }
-    if (kind == FOLDER) | (kind == LIST) {
-        return true;
-    }
-    add_file(rt, i, kind, line, rows, plan, store, table, paths)
 }
 
 // Whether entry `k`, where it is a root, is the first of its name: the made entry includes roots by name.
-fn is_first(k: usize, store: &[u8], table: &[[u32; 5]], paths: &[[u32; 3]]) -> bool {
-    if !is_root(file_kind(paths, k)) {
+fn is_first(k: usize, sources: &Sources) -> bool {
+    let Some(kind) = sources.kind(k) else {
+        return true;
+    };
+    if !kind.is_root() {
         return true;
     }
-    if table.len() <= k {
-        return true;
-    }
-    let name = handover::name_at(store, table, k);
-    let e = handover::entry_of(store, table, 0, name);
+    let name = sources.name(k);
+    let e = handover::entry_of(sources.store.as_slice(), sources.table.as_slice(), 0, name);
     if e == k {
         return true;
     }
-    let alike = file_kind(paths, e) == file_kind(paths, k);
-    if alike & same(path_at(store, paths, e), path_at(store, paths, k)) {
-        return true;
-    }
-    complain(
-        name,
-        b"two files have this name: give one of them without --strip",
-    );
-    false
+    (sources.kind(e) == Some(kind)) & (sources.path(e) == sources.path(k))
 }
 
-// Whether each root is the first file of its name, where the command makes the root entry.
-fn check_names(n: usize, store: &[u8], table: &[[u32; 5]], paths: &[[u32; 3]]) -> bool {
-    if file_kind(paths, 0) != MADE {
-        return true;
+// Checks that each root is the first file of its name, where the command makes the root entry.
+fn check_names(sources: &Sources) -> Result<(), Failure> {
+    if sources.kind(0) != Some(FileKind::Made) {
+        return Ok(());
     }
-    let mut k = 0;
-    while k < n {
-        if !is_first(k, store, table, paths) {
-            return false;
+    for k in 0..sources.files.len() {
+        if !is_first(k, sources) {
+            complain(
+                sources.name(k),
+                b"two files have this name: give one of them without --strip",
+            );
+            return Err(Failure::Told);
         }
-        k += 1;
     }
-    true
+    Ok(())
 }
 
 // Reads all files and start macros; a message is written where that fails.
 pub fn read_all(
     rt: &(impl Files + Input),
-    line: &[u8],
-    rows: &[[u32; 5]],
-    plan: &mut [usize],
-    store: &mut [u8],
-    table: &mut [[u32; 5]],
-    paths: &mut [[u32; 3]],
-    starts: &mut [[u32; 2]],
-) -> bool {
-    let n = get(plan, ROWS);
-    let mut i = 0;
-    while i < n {
-        if !read_row(rt, i, line, rows, plan, store, table, paths, starts) {
-            return false;
-        }
-        i += 1;
+    plan: &Plan,
+    sources: &mut Sources,
+) -> Result<(), Failure> {
+    for item in plan.items.iter() {
+        read_item(rt, item, sources)?;
     }
-    check_names(get(plan, FILES), store, table, paths)
+    check_names(sources)
 }

@@ -5,7 +5,6 @@ ghost use Rattle.std.specs.Prelude.{◌<◌, length};
 
 use lex::{GRAVE, NEWLINE, Token, marks_after};
 use names::directive_of;
-use plan::{range_of, row_at};
 use text::part_of;
 
 // Where the walk stands: the file, the byte, its line, where that line starts, whether only white bytes stand before on it,
@@ -21,13 +20,29 @@ pub struct Spot {
     pub hidden: usize,
 }
 
-// The bytes of file `k`.
-pub fn body_of<'a>(store: &'a [u8], table: &[[u32; 5]], k: usize) -> &'a [u8] {
-    if table.len() <= k {
-        return part_of(store, 0, 0);
+// A line of a file.
+#[derive(Clone, Copy, PartialEq, Eq, PartialOrd, Ord)]
+pub struct Place {
+    pub file: usize,
+    pub line: usize,
+}
+
+// How many lines an entry of the map tells apart: it is the file times this, and the line.
+const LINES: usize = 131072;
+
+impl Place {
+    // The place that an entry of the map stands for.
+    pub fn of_entry(entry: u32) -> Place {
+        Place {
+            file: entry as usize / LINES,
+            line: entry as usize % LINES,
+        }
     }
-    let v = row_at(table, k);
-    range_of(store, v[3], v[4])
+
+    // The map's entry for the place.
+    pub fn entry(self) -> u32 {
+        (self.file % 32768 * LINES + self.line % LINES) as u32
+    }
 }
 
 // The number of the directive that the token `t` is; 0 for all else.

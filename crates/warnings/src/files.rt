@@ -2,29 +2,22 @@
 use crate::saying::{say_not_included, say_root};
 use identity::{is_same, of_path};
 use noting::includes::place_at;
-use noting::tallies::count_warning;
-use plan::{ANGLED, INCLUDED, INPUT, ROOT, file_kind, path_at, wide};
+use plan::{FileKind, Sources};
+use spots::Place;
 use std::rt::Files;
 
-fn warn_file(store: &[u8], paths: &[[u32; 3]], included: &[u32], k: usize, tallies: &mut [usize]) {
-    let kind = file_kind(paths, k);
-    if (kind != INCLUDED) & (kind != ANGLED) {
-        return;
+// Warns of the files given for includes that no file includes; how many warnings that are.
+pub fn warn_given(sources: &Sources, included: &[u32]) -> usize {
+    let mut warned = 0usize;
+    for (k, file) in sources.files.iter().enumerate() {
+        let angled = file.kind == FileKind::Angled;
+        let given = (file.kind == FileKind::Included) | angled;
+        if given & place_at(included, k).is_none() {
+            say_not_included(sources.path(k), angled);
+            warned = warned.saturating_add(1);
+        }
     }
-    if place_at(included, k) != 0 {
-        return;
-    }
-    say_not_included(path_at(store, paths, k), kind == ANGLED);
-    count_warning(tallies);
-}
-
-// Warns of the files given for includes that no file includes.
-pub fn warn_given(store: &[u8], paths: &[[u32; 3]], included: &[u32], tallies: &mut [usize]) {
-    let mut k = 0;
-    while k < paths.len() {
-        warn_file(store, paths, included, k, tallies);
-        k += 1;
-    }
+    warned
 }
 
 // Whether two paths lead to one file.
@@ -32,85 +25,61 @@ fn is_same_file(files: &impl Files, a: &[u8], b: &[u8]) -> bool {
     is_same(of_path(files, a), of_path(files, b))
 }
 
-fn is_root(paths: &[[u32; 3]], k: usize) -> bool {
-    let kind = file_kind(paths, k);
-    (kind == ROOT) | (kind == INPUT)
+fn is_root(sources: &Sources, k: usize) -> bool {
+    match sources.kind(k) {
+        Some(kind) => kind.is_root(),
+        None => false,
+    }
 }
 
-// Where entry `k` is included as the file that the root `root` is; 0 where it is not.
+// Where entry `k` is included as the file that the root `root` is, if it is.
 fn place_as(
     files: &impl Files,
-    store: &[u8],
-    paths: &[[u32; 3]],
+    sources: &Sources,
     included: &[u32],
     root: usize,
     k: usize,
-) -> u32 {
-    let place = place_at(included, k);
-    if place == 0 {
-        return 0;
-    }
+) -> Option<Place> {
+    let place = place_at(included, k)?;
     if k == root {
-        return place;
+        return Some(place);
     }
-    if is_root(paths, k) {
-        return 0;
+    if is_root(sources, k) {
+        return None;
     }
-    if is_same_file(files, path_at(store, paths, root), path_at(store, paths, k)) {
-        return place;
+    if is_same_file(files, sources.path(root), sources.path(k)) {
+        return Some(place);
     }
-    0
+    None
 }
 
-// Where the root `root` is included too, as an entry of any kind; 0 where it is not.
+// Where the root `root` is included too, as an entry of any kind, if it is.
 fn find_place(
     files: &impl Files,
-    store: &[u8],
-    paths: &[[u32; 3]],
+    sources: &Sources,
     included: &[u32],
     root: usize,
-) -> u32 {
-    let mut k = 0;
-    while k < paths.len() {
-        let place = place_as(files, store, paths, included, root, k);
-        if place != 0 {
+) -> Option<Place> {
+    for k in 0..sources.files.len() {
+        let place = place_as(files, sources, included, root, k);
+        if place.is_some() {
             return place;
         }
-        k += 1;
     }
-    0
+    None
 }
 
-fn warn_root(
-    files: &impl Files,
-    store: &[u8],
-    paths: &[[u32; 3]],
-    included: &[u32],
-    k: usize,
-    tallies: &mut [usize],
-) {
-    if !is_root(paths, k) {
-        return;
+// Warns of the roots that are included too; how many warnings that are.
+pub fn warn_roots(files: &impl Files, sources: &Sources, included: &[u32]) -> usize {
+    let mut warned = 0usize;
+    for k in 0..sources.files.len() {
+        if !is_root(sources, k) {
+            continue;
+        }
+        if let Some(place) = find_place(files, sources, included, k) {
+            say_root(sources, k, place);
+            warned = warned.saturating_add(1);
+        }
     }
-    let place = find_place(files, store, paths, included, k);
-    if place == 0 {
-        return;
-    }
-    say_root(store, paths, k, wide(place / 131072), wide(place % 131072));
-    count_warning(tallies);
-}
-
-// Warns of the roots that are included too.
-pub fn warn_roots(
-    files: &impl Files,
-    store: &[u8],
-    paths: &[[u32; 3]],
-    included: &[u32],
-    tallies: &mut [usize],
-) {
-    let mut k = 0;
-    while k < paths.len() {
-        warn_root(files, store, paths, included, k, tallies);
-        k += 1;
-    }
+    warned
 }

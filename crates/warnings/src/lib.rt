@@ -5,114 +5,54 @@ mod files;
 mod saying;
 mod uses;
 
-use plan::get;
+use noting::includes::spread_late;
+use noting::notes::Notes;
+use plan::{Plan, Sources};
+use std::alloc::{AllocError, Global};
 use std::rt::Files;
 
-// Warns of what the command line gave in vain.
+// Warns of what the command line gave in vain; how many warnings that are.
 fn warn_of_options(
     files: &impl Files,
-    store: &[u8],
-    table: &[[u32; 5]],
-    paths: &[[u32; 3]],
-    line: &[u8],
-    rows: &[[u32; 5]],
-    count: usize,
+    alloc: Global,
+    plan: &Plan,
+    sources: &Sources,
     included: &[u32],
-    tallies: &mut [usize],
-) {
-    uses::warn_unused(store, table, line, rows, count, tallies);
-    files::warn_given(store, paths, included, tallies);
-    files::warn_roots(files, store, paths, included, tallies);
+) -> Result<usize, AllocError> {
+    let unused = uses::warn_unused(alloc, plan, sources)?;
+    let given = files::warn_given(sources, included);
+    let roots = files::warn_roots(files, sources, included);
+    Ok(unused.saturating_add(given).saturating_add(roots))
 }
 
-// Warns of what the directives noted do along the map.
-fn warn_of_directives(
-    store: &[u8],
-    table: &[[u32; 5]],
-    paths: &[[u32; 3]],
-    line: &[u8],
-    rows: &[[u32; 5]],
-    count: usize,
+// Warns of what the directives noted do along the map; how many warnings that are.
+fn warn_of_directives<'a>(
+    alloc: Global,
+    plan: &'a Plan,
+    sources: &'a Sources,
     map: &[u32],
-    lines: usize,
-    late: &mut [[u32; 2]],
-    seen: &mut [[u32; 5]],
-    vague: &mut [[u32; 3]],
-    tallies: &mut [usize],
-) {
-    noting::includes::spread_late(late);
-    noting::notes::settle_notes(store, table, late, seen, vague, tallies);
-    replaying::warn_definitions(
-        store, table, paths, line, rows, count, map, lines, seen, vague, tallies,
-    );
+    notes: &mut Notes<'a>,
+) -> Result<usize, AllocError> {
+    spread_late(notes.inclusions.as_mut_slice());
+    notes.settle(sources)?;
+    replaying::warn_definitions(alloc, plan, sources, map, notes)
 }
 
-// Does what `warn_all` does, with tables that are lent: the files included late, the directives noted, the names of which
-// nothing is said, the tallies.
-fn warn_by(
-    files: &impl Files,
-    store: &[u8],
-    table: &[[u32; 5]],
-    paths: &[[u32; 3]],
-    line: &[u8],
-    rows: &[[u32; 5]],
-    count: usize,
-    map: &[u32],
-    lines: usize,
-    included: &mut [u32],
-    silent: bool,
-    late: &mut [[u32; 2]],
-    seen: &mut [[u32; 5]],
-    vague: &mut [[u32; 3]],
-    tallies: &mut [usize],
-) -> usize {
-    noting::walk_files(store, table, paths, included, late, seen, vague, tallies);
-    if silent {
-        return 0;
-    }
-    warn_of_options(
-        files, store, table, paths, line, rows, count, included, tallies,
-    );
-    warn_of_directives(
-        store, table, paths, line, rows, count, map, lines, late, seen, vague, tallies,
-    );
-    get(tallies, noting::tallies::WARNED)
-}
-
-// Warns on standard error, unless `silent`; how many warnings were written. `included` tells for each file where the first
-// `include` of it stands: the file there times 131,072, and the line; 0 where there is none.
+// Warns on standard error, unless the plan is silent; how many warnings were written. `included` tells for each file where the
+// first `include` of it stands: the file there times 131,072, and the line; 0 where there is none.
 pub fn warn_all(
     files: &impl Files,
-    store: &[u8],
-    table: &[[u32; 5]],
-    paths: &[[u32; 3]],
-    line: &[u8],
-    rows: &[[u32; 5]],
-    count: usize,
+    alloc: Global,
+    plan: &Plan,
+    sources: &Sources,
     map: &[u32],
-    lines: usize,
     included: &mut [u32],
-    silent: bool,
-) -> usize {
-    let mut late = [[0u32; 2]; 64];
-    let mut seen = [[0u32; 5]; 8192];
-    let mut vague = [[0u32; 3]; 256];
-    let mut tallies = [0usize; 8];
-    warn_by(
-        files,
-        store,
-        table,
-        paths,
-        line,
-        rows,
-        count,
-        map,
-        lines,
-        included,
-        silent,
-        &mut late,
-        &mut seen,
-        &mut vague,
-        &mut tallies,
-    )
+) -> Result<usize, AllocError> {
+    let mut notes = noting::walk_files(alloc, sources, included)?;
+    if plan.silent {
+        return Ok(0);
+    }
+    let of_options = warn_of_options(files, alloc, plan, sources, included)?;
+    let of_directives = warn_of_directives(alloc, plan, sources, map, &mut notes)?;
+    Ok(of_options.saturating_add(of_directives))
 }

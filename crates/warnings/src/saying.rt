@@ -1,7 +1,8 @@
 // The warnings' words.
 use messages::say;
-use plan::path_at;
+use plan::Sources;
 use replaying::saying::say_place;
+use spots::Place;
 
 // `arborstitch: warning: -D NAME: no file tests or uses this name`
 pub fn say_unused(name: &[u8]) {
@@ -21,10 +22,10 @@ pub fn say_not_included(path: &[u8], angled: bool) {
     say(b": given by --include, but no file includes it\n");
 }
 
-// That the root `k` is included at that line of `file`.
-pub fn say_root(store: &[u8], paths: &[[u32; 3]], k: usize, file: usize, line: usize) {
-    say_place(path_at(store, paths, file), line, 1);
-    say(path_at(store, paths, k));
+// That the root `k` is included at `place`.
+pub fn say_root(sources: &Sources, k: usize, place: Place) {
+    say_place(sources.path(place.file), place.line, 1);
+    say(sources.path(k));
     say(
         b" is a root and is included here too: files that only serve includes go by -I or --include\n",
     );

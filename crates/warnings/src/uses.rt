@@ -1,125 +1,70 @@
 // The macros given on the command line that no file tests or uses.
 use crate::saying::say_unused;
-use lex::{Token, in_definition, token_at};
-use name_uses::{due_after, is_use};
-use noting::tallies::count_warning;
-use plan::{MACRO, kind_at, name_at};
-use spots::{body_of, directive_in, marks_past, past};
-use text::{part_of, peek, same};
+use lex::{in_definition, token_at};
+use name_uses::Due;
+use plan::{Item, Plan, Sources};
+use spots::{directive_in, marks_past, past};
+use std::alloc::{AllocError, Global};
+use text::part_of;
 
-// A macro's name without a leading `\`.
-pub fn plain_name(w: &[u8]) -> &[u8] {
-    if peek(w, 0) == 92 {
-        return part_of(w, 1, w.len());
-    }
-    part_of(w, 0, w.len())
+// A macro given: its name as it is given and without a leading `\`, and whether a file tests or uses it.
+#[derive(Clone, Copy)]
+struct Given<'a> {
+    word: &'a [u8],
+    name: &'a [u8],
+    used: bool,
 }
 
-fn is_used(used: &[u32], i: usize) -> bool {
-    if used.len() <= i {
-        return true;
+fn given_macros<'a>(alloc: Global, plan: &'a Plan) -> Result<Vec<Given<'a>>, AllocError> {
+    let mut all = Vec::new(alloc);
+    for item in plan.items.iter() {
+        if let Item::Macro(given) = item {
+            all.push(Given {
+                word: given.name(),
+                name: given.plain_name(),
+                used: false,
+            })?;
+        }
     }
-    used[i] != 0
+    Ok(all)
 }
 
-fn set_used(used: &mut [u32], i: usize) {
-    if used.len() <= i {
-        return;
-    }
-    used[i] = 1;
-}
-
-// Sets the mark of row `i` where it is a macro of that name.
-fn use_row(name: &[u8], line: &[u8], rows: &[[u32; 5]], i: usize, used: &mut [u32]) {
-    if kind_at(rows, i) != MACRO {
-        return;
-    }
-    if is_used(used, i) {
-        return;
-    }
-    if same(name, plain_name(name_at(line, rows, i))) {
-        set_used(used, i);
+fn use_name(name: &[u8], all: &mut [Given<'_>]) {
+    for given in all.iter_mut() {
+        if given.name == name {
+            given.used = true;
+        }
     }
 }
 
-fn use_name(name: &[u8], line: &[u8], rows: &[[u32; 5]], count: usize, used: &mut [u32]) {
-    let mut i = 0;
-    while i < count {
-        use_row(name, line, rows, i, used);
-        i += 1;
-    }
-}
-
-fn take_token(
-    body: &[u8],
-    line: &[u8],
-    rows: &[[u32; 5]],
-    count: usize,
-    used: &mut [u32],
-    due: usize,
-    t: Token,
-    d: usize,
-) {
-    if !is_use(due, t, d) {
-        return;
-    }
-    use_name(part_of(body, t.from, t.end), line, rows, count, used);
-}
-
-fn walk_uses(body: &[u8], line: &[u8], rows: &[[u32; 5]], count: usize, used: &mut [u32]) {
+fn walk_uses(body: &[u8], all: &mut [Given<'_>]) {
     let mut at = 0;
     let mut marks = false;
-    let mut due = 0;
+    let mut due = Due::Nothing;
     while at < body.len() {
         let t = token_at(body, at, in_definition(marks));
         let d = directive_in(body, t);
-        take_token(body, line, rows, count, used, due, t, d);
-        due = due_after(body, due, t, d);
+        if due.is_use(t, d) {
+            use_name(part_of(body, t.from, t.end), all);
+        }
+        due = due.after(body, t, d);
         marks = marks_past(marks, t);
         at = past(body, at, t.end);
     }
 }
 
-fn walk_all(
-    store: &[u8],
-    table: &[[u32; 5]],
-    line: &[u8],
-    rows: &[[u32; 5]],
-    count: usize,
-    used: &mut [u32],
-) {
-    let mut k = 0;
-    while k < table.len() {
-        walk_uses(body_of(store, table, k), line, rows, count, used);
-        k += 1;
+// Warns of each such macro; how many warnings that are.
+pub fn warn_unused(alloc: Global, plan: &Plan, sources: &Sources) -> Result<usize, AllocError> {
+    let mut all = given_macros(alloc, plan)?;
+    for k in 0..sources.files.len() {
+        walk_uses(sources.body(k), all.as_mut_slice());
     }
-}
-
-fn warn_row(line: &[u8], rows: &[[u32; 5]], i: usize, used: &[u32], tallies: &mut [usize]) {
-    if kind_at(rows, i) != MACRO {
-        return;
+    let mut warned = 0usize;
+    for given in all.iter() {
+        if !given.used {
+            say_unused(given.word);
+            warned = warned.saturating_add(1);
+        }
     }
-    if is_used(used, i) {
-        return;
-    }
-    say_unused(name_at(line, rows, i));
-    count_warning(tallies);
-}
-
-// Warns of each such macro.
-pub fn warn_unused(
-    store: &[u8],
-    table: &[[u32; 5]],
-    line: &[u8],
-    rows: &[[u32; 5]],
-    count: usize,
-    tallies: &mut [usize],
-) {
-    let mut used = [0u32; 4096];
-    walk_all(store, table, line, rows, count, &mut used);
-    let mut i = 0;
-    while i < count {
-        warn_row(line, rows, i, &used, tallies);
-        i += 1;
-    }
+    Ok(warned)
 }

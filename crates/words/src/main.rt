@@ -2,14 +2,18 @@
 // start, 0 to 3.
 #![tactic(auto)]
 
-use formats::{STDERR_FILENO, STDIN_FILENO, least, read_argument, say_classified};
-use options::{NO_NUMBER, number_of};
+use formats::{STDERR_FILENO, STDIN_FILENO, read_argument, say_classified};
+use options::number_of;
 use std::rt::Env;
 
+// Argument `i`, or 4,294,967,295, which is neither a number of words nor a keyword set, where it is no number.
 fn argument(rt: &impl Env, i: usize) -> u32 {
     let mut word = [0u8; 16];
     let n = read_argument(rt, i, &mut word);
-    least(number_of(&word[..n]), NO_NUMBER) as u32
+    match number_of(&word[..n]) {
+        Some(x) => u32::try_from(x).unwrap_or(u32::MAX),
+        None => u32::MAX,
+    }
 }
 
 fn list(text: &[u8], words: &mut [[u32; 3]], set: u32) {

@@ -1,8 +1,9 @@
-use Rattle.std.proofs.Common.{◌-◌, ◌≤◌, length}
+-- The loop of `inputs::read_open`: the room left is at most all room, and shrinks. Assumes nothing.
+use Rattle.std.proofs.Common.{◌≤◌}
 use Rattle.inputs.proofs.read_open.Given as goal
 
-abbrev pub invariant-loop-n : goal.invariant-loop-n
-invariant-loop-n g l = l.n ≤ length l.room
+abbrev pub invariant-loop-room : goal.invariant-loop-room
+invariant-loop-room g l = l.room ≤ l.most
 
-abbrev pub decreases-loop-n : goal.decreases-loop-n
-decreases-loop-n g l = length l.room - l.n
+abbrev pub decreases-loop-room : goal.decreases-loop-room
+decreases-loop-room g l = l.room

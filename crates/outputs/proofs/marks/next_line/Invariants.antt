@@ -1,3 +1,4 @@
+-- The loop of `outputs::marks::next_line` goes on from token to token. Assumes nothing.
 use Rattle.std.proofs.Common.{◌-◌, ◌≤◌, length}
 use Rattle.outputs.proofs.marks.next_line.Given as goal
 

@@ -89,11 +89,9 @@ fn run_next() -> bool {
 fn main() {
     let mut four = [0u8; 4];
     io::read_full(STDIN_FILENO, &mut four);
-    let mut left = number_at(&four, 0);
-    while 0 < left {
+    for _ in 0..number_at(&four, 0) {
         if !run_next() {
             return;
         }
-        left -= 1;
     }
 }

@@ -1,7 +1,7 @@
 // A place in a walk over the tokens of a file, and what every walk needs.
 #![tactic(auto)]
 
-ghost use Rattle.std.specs.Prelude.{◌<◌, length};
+ghost use Rattle.std.specs.Prelude.{◌≡◌, ◌<◌, ◌+◌, ◌*◌, ◌/◌, ◌%◌, length};
 
 use lex::{GRAVE, NEWLINE, Token, marks_after};
 use names::directive_of;
@@ -32,15 +32,20 @@ const LINES: usize = 131072;
 
 impl Place {
     // The place that an entry of the map stands for.
-    pub fn of_entry(entry: u32) -> Place {
+    pub fn of_entry(entry: u32) -> Place
+        ensures file { result.file ≡ entry / 131072 }
+        ensures line { result.line ≡ entry % 131072 }
+    {
         Place {
             file: entry as usize / LINES,
             line: entry as usize % LINES,
         }
     }
 
-    // The map's entry for the place.
-    pub fn entry(self) -> u32 {
+    // The map's entry for the place, where it has one.
+    pub fn entry(self) -> u32
+        ensures { self.file < 32768 → self.line < 131072 → result ≡ self.file * 131072 + self.line }
+    {
         (self.file % 32768 * LINES + self.line % LINES) as u32
     }
 }

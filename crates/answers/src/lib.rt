@@ -184,13 +184,13 @@ fn pass_warnings(
     sources: &Sources,
     map: &[u32],
     included: &mut [u32],
-) -> Result<bool, AllocError> {
-    let warned = warn_all(rt, rt.alloc(), plan, sources, map, included)?;
+) -> bool {
+    let warned = warn_all(rt, rt.alloc(), plan, sources, map, included);
     if (warned == 0) | !plan.strict {
-        return Ok(true);
+        return true;
     }
     complain(b"--strict", b"there are warnings");
-    Ok(false)
+    false
 }
 
 // Writes what is asked of a flattening, or why it is refused; pass and look up ask nothing to be written.
@@ -208,7 +208,7 @@ pub fn finish(
     let lines = r.lines.min(buffers.map.len());
     let map = &buffers.map.as_slice()[..lines];
     let mut included = vec![in rt.alloc(); 0u32; sources.files.len()]?;
-    if !pass_warnings(rt, plan, sources, map, included.as_mut_slice())? {
+    if !pass_warnings(rt, plan, sources, map, included.as_mut_slice()) {
         return Ok(Answer::Refused);
     }
     if plan.command != Command::Flatten {

@@ -84,9 +84,9 @@ pub fn is_link(files: &impl Files, path: &[u8]) -> bool {
     }
 }
 
-// The link's text; an error where the path is no link.
-pub fn link_of<R: Files + Alloc>(rt: &R, path: &[u8]) -> Result<PathBuf<R::A>> {
-    fs::read_link(rt, text_of(path)?)
+// The link's text; none where the path is no link.
+pub fn link_of<R: Files + Alloc>(rt: &R, path: &[u8]) -> Option<PathBuf<R::A>> {
+    fs::read_link(rt, text_of(path).ok()?).ok()
 }
 
 // Whether the system can be handed all of the path.

@@ -7,14 +7,14 @@ pub mod notes;
 ghost use Rattle.std.specs.Prelude.{◌<◌, length};
 
 use crate::includes::{Inclusion, take_include};
-use crate::notes::{Notes, action_of};
+use crate::notes::{MOST_FILES, Notes, action_of};
 use definition::extent_at;
 use lex::{CONTINUATION, NEWLINE, Token, WHITE, in_definition, token_at};
 use names::{DEFINE, INCLUDE};
 use places::newlines_in;
 use plan::Sources;
 use spots::{Spot, directive_in, marks_past, past};
-use std::alloc::{AllocError, Global};
+use std::alloc::Global;
 use text::part_of;
 
 fn is_line_end(t: Token) -> bool {
@@ -59,17 +59,14 @@ fn take<'a>(
     d: usize,
     included: &mut [u32],
     notes: &mut Notes<'a>,
-) -> Result<(), AllocError> {
+) {
     if t.at < z.hidden {
-        return Ok(());
+        return;
     }
     if d == INCLUDE {
-        take_include(sources, z, t, included, notes.inclusions.as_mut_slice());
-        return Ok(());
-    }
-    match action_of(d) {
-        Some(action) => notes.note(sources.body(z.file), z, t, action),
-        None => Ok(()),
+        take_include(sources, z, t, included, &mut notes.inclusions);
+    } else if let Some(action) = action_of(d) {
+        notes.note(sources.body(z.file), z, t, action);
     }
 }
 
@@ -91,24 +88,19 @@ fn walk_file<'a>(
     file: usize,
     included: &mut [u32],
     notes: &mut Notes<'a>,
-) -> Result<(), AllocError> {
+) {
     let body = sources.body(file);
     let mut z = start_of(file);
     while z.at < body.len() {
         let t = token_at(body, z.at, in_definition(z.marks));
         let d = directive_in(body, t);
-        take(sources, z, t, d, included, notes)?;
+        take(sources, z, t, d, included, notes);
         z = step(body, z, t, d);
     }
-    Ok(())
 }
 
 // Walks over all files; `included` tells for each file where the first `include` of it stands, as an entry of the map, or 0.
-pub fn walk_files<'a>(
-    alloc: Global,
-    sources: &'a Sources,
-    included: &mut [u32],
-) -> Result<Notes<'a>, AllocError> {
+pub fn walk_files<'a>(alloc: Global, sources: &'a Sources, included: &mut [u32]) -> Notes<'a> {
     let apart = Inclusion {
         late: false,
         head: None,
@@ -117,11 +109,12 @@ pub fn walk_files<'a>(
         list: Vec::new(alloc),
         vague: Vec::new(alloc),
         stopped: false,
-        inclusions: vec![in alloc; apart; sources.files.len()]?,
+        lost: false,
+        inclusions: [apart; MOST_FILES],
     };
     included.fill(0);
     for k in 0..sources.files.len() {
-        walk_file(sources, k, included, &mut notes)?;
+        walk_file(sources, k, included, &mut notes);
     }
-    Ok(notes)
+    notes
 }

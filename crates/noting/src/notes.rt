@@ -7,7 +7,6 @@ use names::{DEFINE, UNDEF, UNDEFINE_ALL};
 use places::newlines_in;
 use plan::Sources;
 use spots::{Place, Spot};
-use std::alloc::AllocError;
 use text::{part_of, peek};
 
 // What a directive does to macros.
@@ -47,9 +46,14 @@ pub struct Notes<'a> {
     pub vague: Vec<&'a [u8]>,
     // the notes do not tell enough
     pub stopped: bool,
+    // they do not since no memory was left
+    pub lost: bool,
     // how each file is included
-    pub inclusions: Vec<Inclusion>,
+    pub inclusions: [Inclusion; MOST_FILES],
 }
+
+// The most files.
+pub const MOST_FILES: usize = 64;
 
 // The most notes, and the most vague names.
 const MOST_NOTES: usize = 8192;
@@ -138,39 +142,37 @@ impl Note {
 }
 
 impl<'a> Notes<'a> {
-    fn add(&mut self, note: Note) -> Result<(), AllocError> {
+    fn add(&mut self, note: Note) {
         if MOST_NOTES <= self.list.len() {
             self.stopped = true;
-            return Ok(());
+        } else if self.list.push(note).is_err() {
+            self.lose();
         }
-        self.list.push(note)?;
-        Ok(())
+    }
+
+    fn lose(&mut self) {
+        self.stopped = true;
+        self.lost = true;
     }
 
     // A directive with that name may be carried out without a trace in the map: nothing is said of its macro.
-    fn forgo(&mut self, name: &'a [u8], action: Action) -> Result<(), AllocError> {
+    fn forgo(&mut self, name: &'a [u8], action: Action) {
         if (action == Action::UndefineAll) | (MOST_VAGUE <= self.vague.len()) {
             self.stopped = true;
-            return Ok(());
+        } else if self.vague.push(name).is_err() {
+            self.lose();
         }
-        self.vague.push(name)?;
-        Ok(())
     }
 
     // Notes the directive at `z`, the token `t`.
-    pub fn note(
-        &mut self,
-        body: &'a [u8],
-        z: Spot,
-        t: Token,
-        action: Action,
-    ) -> Result<(), AllocError> {
+    pub fn note(&mut self, body: &'a [u8], z: Spot, t: Token, action: Action) {
         let Some(name) = name_in(body, t.end, action) else {
-            return Ok(());
+            return;
         };
         let end = line_end(body, t.end, action, name.end);
         if !z.fresh | (peek(body, end) != b'\n') {
-            return self.forgo(part_of(body, name.from, name.end), action);
+            self.forgo(part_of(body, name.from, name.end), action);
+            return;
         }
         let line = key_of(body, z, t.at, end);
         self.add(Note {
@@ -178,7 +180,7 @@ impl<'a> Notes<'a> {
             at: t.at,
             action,
             mark: if z.line == 1 { Mark::First } else { Mark::Open },
-        })
+        });
     }
 
     pub fn set_mark(&mut self, i: usize, mark: Mark) {
@@ -188,26 +190,25 @@ impl<'a> Notes<'a> {
     }
 
     // Forgoes note `i` where it stands on the first line of a late file.
-    fn settle_note(&mut self, sources: &'a Sources, i: usize) -> Result<(), AllocError> {
+    fn settle_note(&mut self, sources: &'a Sources, i: usize) {
         let Some(note) = self.list.get(i).copied() else {
-            return Ok(());
+            return;
         };
         if note.mark != Mark::First {
-            return Ok(());
+            return;
         }
-        if !is_late(self.inclusions.as_slice(), note.place.file) {
+        if !is_late(&self.inclusions, note.place.file) {
             self.set_mark(i, Mark::Open);
-            return Ok(());
+            return;
         }
         self.set_mark(i, Mark::Forgone);
-        self.forgo(note.name(sources), note.action)
+        self.forgo(note.name(sources), note.action);
     }
 
     // Settles all notes, once it is known which files are late.
-    pub fn settle(&mut self, sources: &'a Sources) -> Result<(), AllocError> {
+    pub fn settle(&mut self, sources: &'a Sources) {
         for i in 0..self.list.len() {
-            self.settle_note(sources, i)?;
+            self.settle_note(sources, i);
         }
-        Ok(())
     }
 }

@@ -1,10 +1,10 @@
 // Outputs that an older run left, moved aside.
-use crate::output_file::{failure_at, may_replace, rename};
-use crate::paths::{real_path, stale_path};
+use crate::output_file::{fail_at, may_replace, rename};
+use crate::paths::{MadePath, real_path, stale_path};
 use crate::targets::{is_special, is_standard};
 use identity::{Identity, is_link, is_regular, is_same, of_descriptor, of_path};
 use messages::{STDERR_FILENO, STDOUT_FILENO, complain, say};
-use std::alloc::{Alloc, AllocError};
+use std::alloc::Alloc;
 use std::rt::Files;
 
 // Whether the file is open as standard output or standard error.
@@ -19,20 +19,20 @@ fn is_taken(files: &impl Files, path: &[u8]) -> bool {
 }
 
 // The path with `.stale` and a free number from 1 to 8 behind it, or 9.
-fn aside_path<R: Files + Alloc>(rt: &R, path: &[u8]) -> Result<Vec<u8, R::A>, AllocError> {
+fn aside_path(files: &impl Files, path: &[u8]) -> MadePath {
     for number in 1..9 {
-        let aside = stale_path(rt, path, number)?;
-        if !is_taken(rt, aside.as_slice()) {
-            return Ok(aside);
+        let aside = stale_path(path, number);
+        if !is_taken(files, aside.as_slice()) {
+            return aside;
         }
     }
-    stale_path(rt, path, 9)
+    stale_path(path, 9)
 }
 
 // Moves the file of that path, which is `real` behind links, aside, and says so.
-fn move_aside(rt: &(impl Files + Alloc), path: &[u8], real: &[u8]) -> Result<(), AllocError> {
-    let aside = aside_path(rt, real)?;
-    match rename(rt, real, aside.as_slice()) {
+fn move_aside(files: &impl Files, path: &[u8], real: &[u8]) {
+    let aside = aside_path(files, real);
+    match rename(files, real, aside.as_slice()) {
         Ok(()) => {
             say(b"arborstitch: ");
             say(path);
@@ -41,32 +41,28 @@ fn move_aside(rt: &(impl Files + Alloc), path: &[u8], real: &[u8]) -> Result<(),
             say(b"\n");
         }
         Err(error) => {
-            failure_at(path, error);
+            fail_at(path, error);
             complain(path, b"it stands as an older run left it");
         }
     }
-    Ok(())
 }
 
 // Sees to it that the output of that path does not stand, where a run did not succeed.
-pub fn set_aside(rt: &(impl Files + Alloc), path: &[u8]) -> Result<(), AllocError> {
+pub fn set_aside(rt: &(impl Files + Alloc), path: &[u8]) {
     if is_standard(path) | is_special(path) {
-        return Ok(());
+        return;
     }
     let file = of_path(rt, path);
     if !is_regular(file) | is_open(rt, file) {
-        return Ok(());
+        return;
     }
-    match real_path(rt, path)? {
+    match real_path(rt, path) {
         Some(real) if may_replace(rt, real.as_slice()).is_ok() => {
-            move_aside(rt, path, real.as_slice())
+            move_aside(rt, path, real.as_slice());
         }
-        _ => {
-            complain(
-                path,
-                b"write-protected, so it stands as an older run left it",
-            );
-            Ok(())
-        }
+        _ => complain(
+            path,
+            b"write-protected, so it stands as an older run left it",
+        ),
     }
 }

@@ -1,5 +1,5 @@
 // An output opened, closed, put in place or given up.
-use crate::paths::{new_path, real_path};
+use crate::paths::{MadePath, new_path, real_path};
 use crate::sink::{Sink, settle};
 use crate::targets::{is_special, is_standard};
 use identity::{Identity, is_regular, is_same, of_descriptor, of_path, text_of};
@@ -56,7 +56,7 @@ impl<'a> OutputFile<'a> {
                 self.way = way;
                 Ok(to)
             }
-            Err(error) => Err(failure_at(self.path, error)),
+            Err(error) => Err(fail_at(self.path, error)),
         }
     }
 
@@ -69,7 +69,7 @@ impl<'a> OutputFile<'a> {
         match settled {
             Ok(()) => Ok(()),
             Err(error) if is_gone(error) => Err(Failure::Gone),
-            Err(error) => Err(failure_at(self.path, error)),
+            Err(error) => Err(fail_at(self.path, error)),
         }
     }
 
@@ -78,15 +78,15 @@ impl<'a> OutputFile<'a> {
         let Way::New { number } = self.way else {
             return Ok(());
         };
-        let real = real_path(rt, self.path)?.unwrap_or(Vec::new(rt.alloc()));
-        let made = new_path(rt, real.as_slice(), number)?;
+        let real = real_path(rt, self.path).unwrap_or(MadePath::of(b""));
+        let made = new_path(real.as_slice(), number);
         let inode = inode_of(rt, made.as_slice());
         match rename(rt, made.as_slice(), real.as_slice()) {
             Ok(()) => {
                 self.way = Way::Placed { inode };
                 Ok(())
             }
-            Err(error) => Err(failure_at(self.path, error)),
+            Err(error) => Err(fail_at(self.path, error)),
         }
     }
 
@@ -112,11 +112,8 @@ impl<'a> OutputFile<'a> {
     }
 }
 
-// What failed with an output, with a message unless it is memory.
-pub fn failure_at(path: &[u8], error: Error) -> Failure {
-    if error.kind() == ErrorKind::OutOfMemory {
-        return Failure::Memory;
-    }
+// What failed with an output, with a message.
+pub(crate) fn fail_at(path: &[u8], error: Error) -> Failure {
     if is_standard(path) {
         inputs::fail_at(b"standard output", error);
     } else {
@@ -129,17 +126,15 @@ fn inode_of(files: &impl Files, path: &[u8]) -> Option<u64> {
     of_path(files, path).map(|file| file.inode)
 }
 
-pub fn rename(files: &impl Files, from: &[u8], to: &[u8]) -> Result<(), Error> {
+pub(crate) fn rename(files: &impl Files, from: &[u8], to: &[u8]) -> Result<(), Error> {
     fs::rename(files, text_of(from)?, text_of(to)?)
 }
 
 // Removes new file `number` beside the file of that path.
 fn remove_new(rt: &(impl Files + Alloc), path: &[u8], number: u32) -> Result<(), Error> {
-    if let Some(real) = real_path(rt, path)? {
-        let made = new_path(rt, real.as_slice(), number)?;
-        fs::remove_file(rt, text_of(made.as_slice())?)?;
-    }
-    Ok(())
+    let real = real_path(rt, path).unwrap_or(MadePath::of(b""));
+    let made = new_path(real.as_slice(), number);
+    fs::remove_file(rt, text_of(made.as_slice())?)
 }
 
 // A number that no other run is likely to have.
@@ -173,7 +168,7 @@ fn open_append<R: Files>(files: &R, path: &[u8]) -> Result<R::File, Error> {
 }
 
 // Whether a file that exists may be written to; an error where not.
-pub fn may_replace(files: &impl Files, path: &[u8]) -> Result<(), Error> {
+pub(crate) fn may_replace(files: &impl Files, path: &[u8]) -> Result<(), Error> {
     open_append(files, path)?;
     Ok(())
 }
@@ -182,7 +177,7 @@ pub fn may_replace(files: &impl Files, path: &[u8]) -> Result<(), Error> {
 fn make_new(rt: &HostRuntime, path: &[u8]) -> Result<(u32, File), Error> {
     for _ in 0..64 {
         let number = any_number(rt);
-        let made = new_path(rt, path, number)?;
+        let made = new_path(path, number);
         announce(made.as_slice());
         match create(rt, made.as_slice()) {
             Ok(file) => return Ok((number, file)),
@@ -195,7 +190,7 @@ fn make_new(rt: &HostRuntime, path: &[u8]) -> Result<(u32, File), Error> {
 
 // Opens a new file beside the file of that path, with the mode of the old one.
 fn open_new(rt: &HostRuntime, path: &[u8], old: Option<Identity>) -> Result<(u32, File), Error> {
-    let Some(real) = real_path(rt, path)? else {
+    let Some(real) = real_path(rt, path) else {
         return Err(Error::from_raw_os_error(ELOOP));
     };
     let Some(old) = old else {

@@ -1,8 +1,8 @@
 // Which file an output's path names.
-use crate::paths::{base_start, real_path};
+use crate::paths::{MadePath, base_start, real_path};
 use identity::{Identity, is_device, is_regular, is_same, of_descriptor, of_path};
 use messages::STDOUT_FILENO;
-use std::alloc::{Alloc, AllocError};
+use std::alloc::Alloc;
 use std::rt::Files;
 use text::part_of;
 
@@ -37,26 +37,24 @@ fn name_of(path: &[u8]) -> &[u8] {
 }
 
 // Whether two paths, neither of a file that exists, name one file.
-fn name_one_new<R: Files + Alloc>(rt: &R, a: &[u8], b: &[u8]) -> Result<bool, AllocError> {
-    let a = real_path(rt, a)?.unwrap_or(Vec::new(rt.alloc()));
-    let b = real_path(rt, b)?.unwrap_or(Vec::new(rt.alloc()));
-    if name_of(a.as_slice()) != name_of(b.as_slice()) {
-        return Ok(false);
-    }
-    Ok(is_same(folder_of(rt, a.as_slice()), folder_of(rt, b.as_slice())))
+fn name_one_new(rt: &(impl Files + Alloc), a: &[u8], b: &[u8]) -> bool {
+    let a = real_path(rt, a).unwrap_or(MadePath::of(b""));
+    let b = real_path(rt, b).unwrap_or(MadePath::of(b""));
+    (name_of(a.as_slice()) == name_of(b.as_slice()))
+        && is_same(folder_of(rt, a.as_slice()), folder_of(rt, b.as_slice()))
 }
 
 // Whether two outputs go to one file other than a device.
-pub fn names_one(rt: &(impl Files + Alloc), a: &[u8], b: &[u8]) -> Result<bool, AllocError> {
+pub fn names_one(rt: &(impl Files + Alloc), a: &[u8], b: &[u8]) -> bool {
     if is_standard(a) & is_standard(b) {
-        return Ok(true);
+        return true;
     }
     let x = target_of(rt, a);
     let y = target_of(rt, b);
     match (x, y) {
-        (Some(_), Some(_)) => Ok(is_same(x, y) & !is_device(x)),
+        (Some(_), Some(_)) => is_same(x, y) & !is_device(x),
         (None, None) => name_one_new(rt, a, b),
-        _ => Ok(false),
+        _ => false,
     }
 }
 

@@ -5,7 +5,7 @@ use identity::{Identity, of_descriptor, of_path};
 use messages::{Failure, STDIN_FILENO, complain};
 use output_files::{is_standard, names_one, overwrites};
 use plan::{Command, FileKind, Item, Output, Outputs, Plan};
-use std::alloc::{Alloc, AllocError};
+use std::alloc::Alloc;
 use std::rt::Files;
 
 fn bad(what: &[u8], why: &[u8]) -> Result<(), Failure> {
@@ -83,17 +83,9 @@ fn is_written(outputs: &Outputs, output: Output) -> bool {
 }
 
 // Whether there are both outputs, and they go to one file.
-fn are_one<R: Files + Alloc>(
-    rt: &R,
-    outputs: &Outputs,
-    a: Output,
-    b: Output,
-) -> Result<bool, AllocError> {
-    if is_written(outputs, a) & is_written(outputs, b) {
-        names_one(rt, outputs.path(a), outputs.path(b))
-    } else {
-        Ok(false)
-    }
+fn are_one(rt: &(impl Files + Alloc), outputs: &Outputs, a: Output, b: Output) -> bool {
+    (is_written(outputs, a) & is_written(outputs, b))
+        && names_one(rt, outputs.path(a), outputs.path(b))
 }
 
 // Whether no two outputs go to one file.
@@ -107,7 +99,7 @@ fn check_apart(rt: &(impl Files + Alloc), outputs: &Outputs) -> Result<(), Failu
         (Output::Rule, Output::Text),
     ];
     for (a, b) in pairs {
-        if are_one(rt, outputs, a, b)? {
+        if are_one(rt, outputs, a, b) {
             return bad(
                 b"-o, -m, -w and -MD",
                 b"two of them name one file: give each its own",

@@ -1,6 +1,6 @@
 // The macros now defined.
 use plan::{Item, Plan};
-use std::alloc::{AllocError, Global};
+use std::alloc::Global;
 
 // The most macros that are kept.
 const MOST: usize = 512;
@@ -12,19 +12,21 @@ pub struct Macro<'a> {
     pub note: Option<usize>,
 }
 
-// The macros, and whether there were too many to keep.
+// The macros; whether there were too many to keep, or no memory was left for one.
 #[derive(Drop)]
 pub struct Defined<'a> {
     list: Vec<Macro<'a>>,
     pub full: bool,
+    pub lost: bool,
 }
 
 impl<'a> Defined<'a> {
     // Those of the command line that have no value.
-    pub fn start(alloc: Global, plan: &'a Plan) -> Result<Defined<'a>, AllocError> {
+    pub fn start(alloc: Global, plan: &'a Plan) -> Defined<'a> {
         let mut defined = Defined {
             list: Vec::new(alloc),
             full: false,
+            lost: false,
         };
         for item in plan.items.iter() {
             if let Item::Macro(given) = item {
@@ -32,11 +34,11 @@ impl<'a> Defined<'a> {
                     defined.add(Macro {
                         name: given.plain_name(),
                         note: None,
-                    })?;
+                    });
                 }
             }
         }
-        Ok(defined)
+        defined
     }
 
     // Where the macro of that name stands.
@@ -44,13 +46,12 @@ impl<'a> Defined<'a> {
         self.list.iter().position(|known| known.name == name)
     }
 
-    pub fn add(&mut self, new: Macro<'a>) -> Result<(), AllocError> {
+    pub fn add(&mut self, new: Macro<'a>) {
         if MOST <= self.list.len() {
             self.full = true;
-            return Ok(());
+        } else if self.list.push(new).is_err() {
+            self.lost = true;
         }
-        self.list.push(new)?;
-        Ok(())
     }
 
     // Note `k` now defines macro `j`; what defined it before.

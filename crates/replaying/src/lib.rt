@@ -12,7 +12,7 @@ use crate::saying::{say_byte, say_redefined, say_undefined};
 use noting::notes::{Action, Mark, Note, Notes};
 use plan::{Plan, Sources};
 use spots::Place;
-use std::alloc::{AllocError, Global};
+use std::alloc::Global;
 
 // Warns of note `k`, a directive with that name, unless that was done before or the name is vague; whether it warns.
 fn warn_note<'a>(sources: &'a Sources, name: &[u8], k: usize, notes: &mut Notes<'a>) -> bool {
@@ -56,23 +56,20 @@ fn define<'a>(
     note: Note,
     defined: &mut Defined<'a>,
     notes: &mut Notes<'a>,
-) -> Result<bool, AllocError> {
+) -> bool {
     let name = note.name(sources);
     let Some(j) = defined.find(name) else {
         defined.add(Macro {
             name,
             note: Some(k),
-        })?;
-        return Ok(false);
+        });
+        return false;
     };
     let old = match defined.redefine(j, k) {
         Some(i) => notes.list.get(i).copied(),
         None => None,
     };
-    if is_same_text(sources, old, note) {
-        return Ok(false);
-    }
-    Ok(warn_note(sources, name, k, notes))
+    !is_same_text(sources, old, note) && warn_note(sources, name, k, notes)
 }
 
 // Carries out the `undef` of note `k`; whether it warns.
@@ -108,37 +105,38 @@ fn carry_out<'a>(
     place: Place,
     defined: &mut Defined<'a>,
     notes: &mut Notes<'a>,
-) -> Result<bool, AllocError> {
+) -> bool {
     let Some((k, note)) = find_note(notes, place) else {
-        return Ok(false);
+        return false;
     };
     match note.action {
         Action::Define => define(sources, k, note, defined, notes),
-        Action::Undefine => Ok(undefine(sources, k, note, defined, notes)),
+        Action::Undefine => undefine(sources, k, note, defined, notes),
         Action::UndefineAll => {
             defined.clear();
-            Ok(false)
+            false
         }
     }
 }
 
-// Warns of the definitions along the lines of the map; how many warnings that are.
+// Warns of the definitions along the lines of the map; how many warnings that are. Notes that no memory was left for are lost.
 pub fn warn_definitions<'a>(
     alloc: Global,
     plan: &'a Plan,
     sources: &'a Sources,
     map: &[u32],
     notes: &mut Notes<'a>,
-) -> Result<usize, AllocError> {
-    let mut defined = Defined::start(alloc, plan)?;
+) -> usize {
+    let mut defined = Defined::start(alloc, plan);
     let mut warned = 0usize;
     for entry in map {
-        if notes.stopped | defined.full {
+        if notes.stopped | defined.full | defined.lost {
             break;
         }
-        if carry_out(sources, Place::of_entry(*entry), &mut defined, notes)? {
+        if carry_out(sources, Place::of_entry(*entry), &mut defined, notes) {
             warned = warned.saturating_add(1);
         }
     }
-    Ok(warned)
+    notes.lost = notes.lost | defined.lost;
+    warned
 }

@@ -83,12 +83,7 @@ fn start_of(file: usize) -> Spot {
     }
 }
 
-fn walk_file<'a>(
-    sources: &'a Sources,
-    file: usize,
-    included: &mut [u32],
-    notes: &mut Notes<'a>,
-) {
+fn walk_file<'a>(sources: &'a Sources, file: usize, included: &mut [u32], notes: &mut Notes<'a>) {
     let body = sources.body(file);
     let mut z = start_of(file);
     while z.at < body.len() {

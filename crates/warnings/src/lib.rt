@@ -5,8 +5,8 @@ mod files;
 mod saying;
 mod uses;
 
-use noting::includes::spread_late;
 use messages::complain;
+use noting::includes::spread_late;
 use noting::notes::Notes;
 use plan::{Plan, Sources};
 use std::alloc::Global;

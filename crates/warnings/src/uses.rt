@@ -54,7 +54,11 @@ fn walk_uses(body: &[u8], all: &mut [Given<'_>]) {
 }
 
 // Warns of each such macro; how many warnings that are.
-pub(crate) fn warn_unused(alloc: Global, plan: &Plan, sources: &Sources) -> Result<usize, AllocError> {
+pub(crate) fn warn_unused(
+    alloc: Global,
+    plan: &Plan,
+    sources: &Sources,
+) -> Result<usize, AllocError> {
     let mut all = given_macros(alloc, plan)?;
     for k in 0..sources.files.len() {
         walk_uses(sources.body(k), all.as_mut_slice());

@@ -125,3 +125,26 @@ pub fn walk_files<'a>(
     }
     Ok(notes)
 }
+
+#[cfg(test)]
+mod tests {
+    use super::*;
+    use plan::FileKind;
+
+    // A definition is noted, and the notes are settled.
+    #[test]
+    fn notes_a_definition(rt: HostRuntime) {
+        let mut sources = Sources::new(rt.alloc());
+        assert!(rt; sources.append(b"`define A\n").is_ok());
+        assert!(rt; sources.enter(FileKind::Root, false, 0, 0, 0).is_ok());
+        let mut included = [0u32; 1];
+        match walk_files(rt.alloc(), &sources, &mut included) {
+            Ok(mut notes) => {
+                assert!(rt; notes.settle(&sources).is_ok());
+                assert_eq!(rt; notes.list.len(), 1);
+                assert!(rt; !notes.stopped);
+            }
+            Err(_) => assert!(rt; false),
+        }
+    }
+}

@@ -1,6 +1,9 @@
 // Which tokens of a file name a macro to test or use it: names that conditional words test, and usages.
 #![tactic(auto)]
 
+ghost use Rattle.std.specs.Prelude.{◌≡◌};
+ghost use Rattle.name_uses.specs.Waiting.{tests, opened, closed, after_token};
+
 use lex::{ESCAPED, GRAVE, NAME, NEWLINE, Token, is_byte, is_gap};
 use names::{ELSIF, IFDEF, IFNDEF};
 
@@ -14,13 +17,17 @@ pub enum Due {
     Closings(usize),
 }
 
-fn is_conditional(d: usize) -> bool {
+fn is_conditional(d: usize) -> bool
+    ensures { result ≡ tests d }
+{
     (d == IFDEF) | ((d == IFNDEF) | (d == ELSIF))
 }
 
 impl Due {
     // One `(` more.
-    fn opened(self) -> Due {
+    fn opened(self) -> Due
+        ensures { result ≡ opened self }
+    {
         match self {
             Due::Closings(open) => Due::Closings(open.saturating_add(1)),
             _ => Due::Closings(1),
@@ -28,7 +35,9 @@ impl Due {
     }
 
     // One `)` less.
-    fn closed(self) -> Due {
+    fn closed(self) -> Due
+        ensures { result ≡ closed self }
+    {
         match self {
             Due::Closings(open) if 1 < open => Due::Closings(open - 1),
             _ => Due::Nothing,
@@ -36,7 +45,9 @@ impl Due {
     }
 
     // What is waited for past the token `t`, which is the directive `d`.
-    pub fn after(self, body: &[u8], t: Token, d: usize) -> Due {
+    pub fn after(self, body: &[u8], t: Token, d: usize) -> Due
+        ensures { result ≡ after_token self body.now t d }
+    {
         if is_conditional(d) {
             return Due::Condition;
         }

@@ -113,3 +113,23 @@ pub fn walk_files<'a>(alloc: Global, sources: &'a Sources, included: &mut [u32])
     }
     notes
 }
+
+#[cfg(test)]
+mod tests {
+    use super::*;
+    use plan::FileKind;
+
+    // A definition is noted, and the notes are settled.
+    #[test]
+    fn notes_a_definition(rt: HostRuntime) {
+        let mut sources = Sources::new(rt.alloc());
+        assert!(rt; sources.append(b"`define A\n").is_ok());
+        assert!(rt; sources.enter(FileKind::Root, false, 0, 0, 0).is_ok());
+        let mut included = [0u32; 1];
+        let mut notes = walk_files(rt.alloc(), &sources, &mut included);
+        notes.settle(&sources);
+        assert_eq!(rt; notes.list.len(), 1);
+        assert!(rt; !notes.stopped);
+        assert!(rt; !notes.lost);
+    }
+}

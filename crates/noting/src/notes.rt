@@ -1,4 +1,7 @@
 // The definitions that the walk met, noted in the order of files and lines.
+ghost use Rattle.std.specs.Prelude.{◌≡◌, ◌≢◌, ℕ, [], slice_get, vec_len};
+ghost use Rattle.noting.specs.Noted.{action_for, marked};
+
 use crate::includes::{Inclusion, is_late};
 use definition::{extent_at, head_at};
 use directive::{Word, word_at, word_start};
@@ -68,7 +71,9 @@ struct Part {
 }
 
 // What the directive `d` does to macros, if it does.
-pub fn action_of(d: usize) -> Option<Action> {
+pub fn action_of(d: usize) -> Option<Action>
+    ensures { result ≡ action_for d }
+{
     match d {
         DEFINE => Some(Action::Define),
         UNDEF => Some(Action::Undefine),
@@ -156,7 +161,9 @@ impl<'a> Notes<'a> {
     }
 
     // A directive with that name may be carried out without a trace in the map: nothing is said of its macro.
-    fn forgo(&mut self, name: &'a [u8], action: Action) {
+    fn forgo(&mut self, name: &'a [u8], action: Action)
+        ensures { self.new.list ≡ self.old.list }
+    {
         if (action == Action::UndefineAll) | (MOST_VAGUE <= self.vague.len()) {
             self.stopped = true;
         } else if self.vague.push(name).is_err() {
@@ -183,14 +190,21 @@ impl<'a> Notes<'a> {
         });
     }
 
-    pub fn set_mark(&mut self, i: usize, mark: Mark) {
+    pub fn set_mark(&mut self, i: usize, mark: Mark)
+        ensures mark { slice_get self.new.list.items i ≡ marked mark (slice_get self.old.list.items i) }
+        ensures others { (k : ℕ) → k ≢ i → slice_get self.new.list.items k ≡ slice_get self.old.list.items k }
+        ensures count { vec_len self.new.list ≡ vec_len self.old.list }
+        ensures rest { self.new ≡ record self.old { list = self.new.list } }
+    {
         if let Some(note) = self.list.get_mut(i) {
             note.mark = mark;
         }
     }
 
     // Forgoes note `i` where it stands on the first line of a late file.
-    fn settle_note(&mut self, sources: &'a Sources, i: usize) {
+    fn settle_note(&mut self, sources: &'a Sources, i: usize)
+        ensures { vec_len self.new.list ≡ vec_len self.old.list }
+    {
         let Some(note) = self.list.get(i).copied() else {
             return;
         };

@@ -5,6 +5,12 @@ mod items;
 mod outputs;
 mod source_files;
 
+ghost use Rattle.std.specs.Prelude.{◌≡◌, false, [], count_by};
+ghost use Rattle.std.specs.List.{list_any};
+ghost use Rattle.plan.specs.declared.outputs.Output.{Output};
+ghost use Rattle.plan.specs.Given.{is_root_item, has_value_item};
+ghost use Rattle.plan.specs.Named.{path_of};
+
 pub use items::{FileKind, GivenFile, GivenMacro, Item};
 pub use outputs::{Output, Outputs};
 pub use source_files::{SourceFile, Sources};
@@ -49,7 +55,20 @@ pub struct Plan {
 
 impl Plan {
     // What an empty command line asks for.
-    pub fn new(alloc: Global) -> Plan {
+    pub fn new(alloc: Global) -> Plan
+        ensures command { result.command ≡ Command.Flatten }
+        ensures set { result.set ≡ 3 }
+        ensures limit { result.limit ≡ 100000 }
+        ensures items { result.items.items ≡ [] }
+        ensures name { result.name.items ≡ [] }
+        ensures outputs { (output : Output) → path_of result.outputs output ≡ [] }
+        ensures quiet { result.quiet ≡ false }
+        ensures silent { result.silent ≡ false }
+        ensures strict { result.strict ≡ false }
+        ensures lines { result.lines ≡ false }
+        ensures defines { result.defines ≡ false }
+        ensures lacks_value { result.lacks_value ≡ false }
+    {
         Plan {
             command: Command::Flatten,
             set: 3,
@@ -67,12 +86,16 @@ impl Plan {
     }
 
     // How many files given are roots.
-    pub fn count_roots(&self) -> usize {
+    pub fn count_roots(&self) -> usize
+        ensures { result ≡ count_by is_root_item self.now.items.items }
+    {
         self.items.iter().filter(|item| item.is_root()).count()
     }
 
     // Whether a macro is given with a value.
-    pub fn has_values(&self) -> bool {
+    pub fn has_values(&self) -> bool
+        ensures { result ≡ list_any has_value_item self.now.items.items }
+    {
         self.items.iter().any(|item| item.has_value())
     }
 }

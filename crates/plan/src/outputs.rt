@@ -1,4 +1,8 @@
 // The outputs that the command line names.
+ghost use Rattle.std.specs.Prelude.{◌≡◌, ◌≢◌, [], length, not, nat_eq};
+ghost use Rattle.plan.specs.Named.{path_of};
+ghost use Rattle.plan.specs.declared.outputs.Output.{Output};
+
 use std::alloc::Global;
 
 // The outputs, in the order in which they are put in place.
@@ -20,7 +24,9 @@ pub struct Outputs {
 }
 
 impl Outputs {
-    pub fn new(alloc: Global) -> Outputs {
+    pub fn new(alloc: Global) -> Outputs
+        ensures { (output : Output) → path_of result output ≡ [] }
+    {
         Outputs {
             rule: Vec::new(alloc),
             map: Vec::new(alloc),
@@ -29,7 +35,9 @@ impl Outputs {
         }
     }
 
-    pub fn path(&self, output: Output) -> &[u8] {
+    pub fn path(&self, output: Output) -> &[u8]
+        ensures { result.now ≡ path_of self.now output }
+    {
         match output {
             Output::Rule => self.rule.as_slice(),
             Output::Map => self.map.as_slice(),
@@ -38,7 +46,10 @@ impl Outputs {
         }
     }
 
-    pub fn set_path(&mut self, output: Output, path: Vec<u8>) {
+    pub fn set_path(&mut self, output: Output, path: Vec<u8>)
+        ensures set { path_of self.new output ≡ path.items }
+        ensures others { (other : Output) → other ≢ output → path_of self.new other ≡ path_of self.old other }
+    {
         match output {
             Output::Rule => self.rule = path,
             Output::Map => self.map = path,
@@ -47,7 +58,9 @@ impl Outputs {
         }
     }
 
-    pub fn is_given(&self, output: Output) -> bool {
+    pub fn is_given(&self, output: Output) -> bool
+        ensures { result ≡ not (nat_eq (length (path_of self.now output)) 0) }
+    {
         !self.path(output).is_empty()
     }
 }

@@ -1,7 +1,7 @@
 // A place in a walk over the tokens of a file, and what every walk needs.
 #![tactic(auto)]
 
-ghost use Rattle.std.specs.Prelude.{◌≡◌, ◌<◌, ◌+◌, ◌*◌, ◌/◌, ◌%◌, length};
+ghost use Rattle.std.specs.Prelude.{◌≡◌, ◌+◌, ◌*◌, ◌/◌, ◌%◌, ◌<◌, length};
 
 use lex::{GRAVE, NEWLINE, Token, marks_after};
 use names::directive_of;
@@ -33,8 +33,8 @@ const LINES: usize = 131072;
 impl Place {
     // The place that an entry of the map stands for.
     pub fn of_entry(entry: u32) -> Place
-        ensures file { result.file ≡ entry / 131072 }
-        ensures line { result.line ≡ entry % 131072 }
+        ensures file { result.file ≡ entry / LINES }
+        ensures line { result.line ≡ entry % LINES }
     {
         Place {
             file: entry as usize / LINES,
@@ -42,9 +42,11 @@ impl Place {
         }
     }
 
-    // The map's entry for the place, where it has one.
+    // The map's entry for the place.
     pub fn entry(self) -> u32
-        ensures { self.file < 32768 → self.line < 131072 → result ≡ self.file * 131072 + self.line }
+        ensures entry { result ≡ self.file % 32768 * LINES + self.line % LINES }
+        ensures file { self.file < 32768 → result / LINES ≡ self.file }
+        ensures line { self.line < LINES → result % LINES ≡ self.line }
     {
         (self.file % 32768 * LINES + self.line % LINES) as u32
     }

@@ -1,6 +1,8 @@
 // The words of the command line, with those of the lists that it names among them.
 #![tactic(auto)]
 
+ghost use Rattle.std.specs.Prelude.{◌≡◌, ◌≤◌, ◌↔◌, ◌++◌, ◌∷◌, [], IsNone, IfSome, IfOk, OnOk, vec_len};
+
 use inputs::{Unread, fail_at, open_input, read_open};
 use messages::{Failure, complain};
 use std::alloc::{AllocError, Global};
@@ -86,12 +88,19 @@ impl Words {
         })
     }
 
-    pub fn next(&mut self) -> Option<Entry> {
+    pub fn next(&mut self) -> Option<Entry>
+        ensures none { IsNone result ↔ (self.old.left.items ≡ []) }
+        ensures last { IfSome result (λ entry. self.old.left.items ≡ self.new.left.items ++ entry ∷ []) }
+        ensures rest { self.new ≡ record self.old { left = self.new.left } }
+    {
         self.left.pop()
     }
 
     // The words of the list of that path, and its end, come next.
-    pub fn take_list(&mut self, files: &impl Files, path: &[u8]) -> Result<(), Failure> {
+    pub fn take_list(&mut self, files: &impl Files, path: &[u8]) -> Result<(), Failure>
+        ensures count { OnOk result (self.new.count ≤ MOST_WORDS) }
+        ensures room { self.new.room ≤ self.old.room }
+    {
         let list = self.read_list(files, path)?;
         let mut entries = entries_of(list.as_slice(), self.alloc)?;
         self.count = self.count.saturating_add(entries.len());
@@ -103,7 +112,9 @@ impl Words {
     }
 
     // The bytes of the list of that path.
-    fn read_list(&mut self, files: &impl Files, path: &[u8]) -> Result<Vec<u8>, Failure> {
+    fn read_list(&mut self, files: &impl Files, path: &[u8]) -> Result<Vec<u8>, Failure>
+        ensures { self.new.room ≤ self.old.room }
+    {
         let Some(file) = open_input(files, path) else {
             return Err(Failure::Told);
         };
@@ -119,6 +130,23 @@ impl Words {
                 fail_at(path, error);
                 Err(Failure::Told)
             }
+        }
+    }
+}
+
+#[cfg(test)]
+mod tests {
+    use super::*;
+
+    // An empty list is taken: its end comes next.
+    #[test]
+    fn takes_an_empty_list(rt: HostRuntime) {
+        match Words::gather(&rt, rt.alloc()) {
+            Ok(mut words) => {
+                assert!(rt; words.take_list(&rt, b"/dev/null").is_ok());
+                assert!(rt; matches!(words.next(), Some(Entry::ListEnd)));
+            }
+            Err(_) => assert!(rt; false),
         }
     }
 }

@@ -155,7 +155,9 @@ impl<'a> Notes<'a> {
         }
     }
 
-    fn lose(&mut self) {
+    fn lose(&mut self)
+        ensures { self.new.list ≡ self.old.list }
+    {
         self.stopped = true;
         self.lost = true;
     }

@@ -5,7 +5,7 @@ use std::io::ErrorKind;
 use std::rt::Files;
 
 // Where the last name of a path starts.
-pub fn base_start(path: &[u8]) -> usize {
+pub(crate) fn base_start(path: &[u8]) -> usize {
     match path.iter().rposition(|b| *b == b'/') {
         Some(slash) => slash + 1,
         None => 0,
@@ -24,7 +24,7 @@ fn follow<A: Allocator>(path: &mut Vec<u8, A>, to: &[u8]) -> Result<(), AllocErr
 
 // The path of the file itself, where `path` is a link or a chain of them; none where it has over 16, or where one leads to a path
 // that cannot be told.
-pub fn real_path<R: Files + Alloc>(
+pub(crate) fn real_path<R: Files + Alloc>(
     rt: &R,
     path: &[u8],
 ) -> Result<Option<Vec<u8, R::A>>, AllocError> {
@@ -50,7 +50,11 @@ fn push_number<A: Allocator>(path: &mut Vec<u8, A>, number: u32) -> Result<(), A
 }
 
 // The path of new file `number` beside the file of that path.
-pub fn new_path<R: Alloc>(rt: &R, path: &[u8], number: u32) -> Result<Vec<u8, R::A>, AllocError> {
+pub(crate) fn new_path<R: Alloc>(
+    rt: &R,
+    path: &[u8],
+    number: u32,
+) -> Result<Vec<u8, R::A>, AllocError> {
     let mut made = Vec::from_slice(rt.alloc(), path)?;
     made.truncate(base_start(path));
     made.extend_from_slice(b".arborstitch-")?;
@@ -59,7 +63,11 @@ pub fn new_path<R: Alloc>(rt: &R, path: &[u8], number: u32) -> Result<Vec<u8, R:
 }
 
 // The path with `.stale` and a number behind it.
-pub fn stale_path<R: Alloc>(rt: &R, path: &[u8], number: u32) -> Result<Vec<u8, R::A>, AllocError> {
+pub(crate) fn stale_path<R: Alloc>(
+    rt: &R,
+    path: &[u8],
+    number: u32,
+) -> Result<Vec<u8, R::A>, AllocError> {
     let mut aside = Vec::from_slice(rt.alloc(), path)?;
     aside.extend_from_slice(b".stale")?;
     push_number(&mut aside, number)?;

@@ -4,6 +4,7 @@
 
 ghost use Rattle.identity.specs.Ended.{Ended};
 ghost use Rattle.io.specs.Counts.{IsPrefixLen};
+ghost use Rattle.std.specs.Prelude.{◌≡◌, IsTrue, IsSome};
 
 use std::alloc::Alloc;
 use std::fs::Metadata;
@@ -49,7 +50,12 @@ pub fn of_descriptor(files: &impl Files, fd: i32) -> Option<Identity> {
 }
 
 // Whether both were found and are one file.
-pub fn is_same(a: Option<Identity>, b: Option<Identity>) -> bool {
+pub fn is_same(a: Option<Identity>, b: Option<Identity>) -> bool
+    ensures first { IsTrue result → IsSome a }
+    ensures second { IsTrue result → IsSome b }
+    ensures device { (x y : Identity) → IsTrue result → a ≡ Some x → b ≡ Some y → x.device ≡ y.device }
+    ensures inode { (x y : Identity) → IsTrue result → a ≡ Some x → b ≡ Some y → x.inode ≡ y.inode }
+{
     match (a, b) {
         (Some(a), Some(b)) => (a.device == b.device) & (a.inode == b.inode),
         _ => false,
@@ -57,22 +63,30 @@ pub fn is_same(a: Option<Identity>, b: Option<Identity>) -> bool {
 }
 
 // Whether it was found and is a regular file.
-pub fn is_regular(a: Option<Identity>) -> bool {
+pub fn is_regular(a: Option<Identity>) -> bool
+    ensures found { IsTrue result → IsSome a }
+{
     is_of(a, 8)
 }
 
 // Whether it was found and is a folder.
-pub fn is_folder(a: Option<Identity>) -> bool {
+pub fn is_folder(a: Option<Identity>) -> bool
+    ensures found { IsTrue result → IsSome a }
+{
     is_of(a, 4)
 }
 
 // Whether it was found and is a character device.
-pub fn is_device(a: Option<Identity>) -> bool {
+pub fn is_device(a: Option<Identity>) -> bool
+    ensures found { IsTrue result → IsSome a }
+{
     is_of(a, 2)
 }
 
 // Whether it was found and its mode says this kind.
-fn is_of(a: Option<Identity>, kind: u32) -> bool {
+fn is_of(a: Option<Identity>, kind: u32) -> bool
+    ensures found { IsTrue result → IsSome a }
+{
     a.is_some_and(|a| a.mode / 4096 % 16 == kind)
 }
 

@@ -1,6 +1,10 @@
 // Files that are read: opened, and read whole behind what a `Vec` holds.
 #![tactic(auto)]
 
+ghost use Rattle.inputs.specs.declared.Unread.{Unread};
+ghost use Rattle.std.specs.Prelude.{◌≡◌, ◌+◌, ◌<◌, ◌≤◌, IfOk, vec_len};
+ghost use Rattle.std.specs.Io.{StartsWith};
+
 use identity::text_of;
 use messages::complain;
 use std::alloc::AllocError;
@@ -21,12 +25,16 @@ pub enum Unread {
 }
 
 impl From<AllocError> for Unread {
+    ghost from_gives = { λ _ unread. unread ≡ Unread.Memory };
+
     fn from(_error: AllocError) -> Unread {
         Unread::Memory
     }
 }
 
 impl From<Error> for Unread {
+    ghost from_gives = { λ error unread. unread ≡ Unread.Failed error };
+
     fn from(error: Error) -> Unread {
         Unread::Failed(error)
     }
@@ -73,7 +81,12 @@ pub fn read_open<R: Read + Drop>(
     mut file: R,
     out: &mut Vec<u8>,
     most: usize,
-) -> std::result::Result<usize, Unread> {
+) -> std::result::Result<usize, Unread>
+    ensures kept { StartsWith out.new.items out.old.items }
+    ensures added { IfOk result (λ n. vec_len out.new ≡ vec_len out.old + n) }
+    ensures room_left { IfOk result (λ n. n < most) }
+    ensures most { vec_len out.new ≤ vec_len out.old + most }
+{
     let mut piece = [0u8; 16384];
     let mut room = most;
     while room > 0 {

@@ -1,7 +1,8 @@
 // What the technician's command says of refusals: their place, the source line, what each number means.
 #![tactic(auto)]
 
-ghost use Rattle.std.specs.Prelude.{◌≤◌};
+ghost use Rattle.messages.specs.declared.Failure.{Failure};
+ghost use Rattle.std.specs.Prelude.{◌≤◌, ◌≡◌};
 
 use std::alloc::{AllocError, AllocFailed};
 use text::part_of;
@@ -20,12 +21,16 @@ pub enum Failure {
 }
 
 impl From<AllocError> for Failure {
+    ghost from_gives = { λ _ failure. failure ≡ Failure.Memory };
+
     fn from(_error: AllocError) -> Failure {
         Failure::Memory
     }
 }
 
 impl<T: Drop> From<AllocFailed<T>> for Failure {
+    ghost from_gives = { λ _ failure. failure ≡ Failure.Memory };
+
     fn from(_error: AllocFailed<T>) -> Failure {
         Failure::Memory
     }

@@ -1,4 +1,6 @@
 // An output opened, closed, put in place or given up.
+ghost use Rattle.std.specs.Prelude.{◌≡◌, ◌≢◌, ℕ, IsTrue, IsOk, IsErr, OnOk, OnErr};
+
 use crate::paths::{MadePath, new_path, real_path};
 use crate::sink::{Sink, settle};
 use crate::targets::{is_special, is_standard};
@@ -41,7 +43,10 @@ pub struct OutputFile<'a> {
 }
 
 impl<'a> OutputFile<'a> {
-    pub fn new(path: &'a [u8]) -> OutputFile<'a> {
+    pub fn new(path: &'a [u8]) -> OutputFile<'a>
+        ensures path { result.path.now ≡ path.now }
+        ensures way { result.way ≡ Way.Not }
+    {
         OutputFile {
             path,
             way: Way::Not,
@@ -49,7 +54,10 @@ impl<'a> OutputFile<'a> {
     }
 
     // Opens it; a message is written where that fails.
-    pub fn open(&mut self, rt: &HostRuntime) -> Result<Sink, Failure> {
+    pub fn open(&mut self, rt: &HostRuntime) -> Result<Sink, Failure>
+        ensures path { self.new.path ≡ self.old.path }
+        ensures closed { OnErr result (self.new.way ≡ Way.Not) }
+    {
         self.way = Way::Not;
         match open_path(rt, self.path) {
             Ok((way, to)) => {
@@ -61,7 +69,11 @@ impl<'a> OutputFile<'a> {
     }
 
     // Closes it, as it was written so; a message is written where it was not, unless its reader went away.
-    pub fn close(&self, to: Sink, written: Result<(), Error>) -> Result<(), Failure> {
+    pub fn close(&self, to: Sink, written: Result<(), Error>) -> Result<(), Failure>
+        ensures unwritten { IsErr written → IsErr result }
+        ensures open { IsOk written → self.now.way ≡ Way.Open → IsOk result }
+        ensures direct { IsOk written → self.now.way ≡ Way.Direct → IsOk result }
+    {
         let settled = match (written, self.way) {
             (Ok(()), Way::New { .. }) => settle(to),
             _ => written,
@@ -74,7 +86,12 @@ impl<'a> OutputFile<'a> {
     }
 
     // Its new file takes its name.
-    pub fn place(&mut self, rt: &(impl Files + Alloc)) -> Result<(), Failure> {
+    pub fn place(&mut self, rt: &(impl Files + Alloc)) -> Result<(), Failure>
+        ensures path { self.new.path ≡ self.old.path }
+        ensures placed { OnOk result ((number : ℕ) → self.new.way ≢ Way.New number) }
+        // so that `discard` still removes the new file
+        ensures unplaced { OnErr result (self.new.way ≡ self.old.way) }
+    {
         let Way::New { number } = self.way else {
             return Ok(());
         };
@@ -91,7 +108,10 @@ impl<'a> OutputFile<'a> {
     }
 
     // Whether it is still the file that was put in place, and not one of another run.
-    pub fn stands(&self, files: &impl Files) -> bool {
+    pub fn stands(&self, files: &impl Files) -> bool
+        ensures open { self.now.way ≡ Way.Open → IsTrue result }
+        ensures direct { self.now.way ≡ Way.Direct → IsTrue result }
+    {
         match self.way {
             Way::Placed { inode } => inode_of(files, self.path) == inode,
             _ => true,
@@ -99,12 +119,18 @@ impl<'a> OutputFile<'a> {
     }
 
     // Whether it is a file that can be written once more: not a device, nor an open descriptor.
-    pub fn is_repeatable(&self) -> bool {
+    pub fn is_repeatable(&self) -> bool
+        ensures open { IsTrue result → self.now.way ≢ Way.Open }
+        ensures direct { IsTrue result → self.now.way ≢ Way.Direct }
+    {
         matches!(self.way, Way::Not | Way::Placed { .. })
     }
 
     // Removes its new file, if there is one.
-    pub fn discard(&mut self, rt: &(impl Files + Alloc)) {
+    pub fn discard(&mut self, rt: &(impl Files + Alloc))
+        ensures path { self.new.path ≡ self.old.path }
+        ensures removed { (number : ℕ) → self.new.way ≢ Way.New number }
+    {
         if let Way::New { number } = self.way {
             let _ = remove_new(rt, self.path, number);
             self.way = Way::Not;

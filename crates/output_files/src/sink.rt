@@ -33,7 +33,7 @@ fn is_unasked(error: Error) -> bool {
 
 // Sees that what was written to a new file has reached it: std closes a file without a word, so what would fail at its close is
 // asked for before.
-pub fn settle(to: Sink) -> Result<()> {
+pub(crate) fn settle(to: Sink) -> Result<()> {
     let Sink::Opened(file) = to else {
         return Ok(());
     };

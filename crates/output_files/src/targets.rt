@@ -12,7 +12,7 @@ pub fn is_standard(path: &[u8]) -> bool {
 }
 
 // Whether a path leads to a device or to an open descriptor: what is there is neither replaced nor moved.
-pub fn is_special(path: &[u8]) -> bool {
+pub(crate) fn is_special(path: &[u8]) -> bool {
     path.starts_with(b"/dev/") | path.starts_with(b"/proc/")
 }
 

@@ -17,10 +17,10 @@ cleared_next : (xs : List Record) (j : ℕ) → cleared (removed xs (suc j) j no
 unfolding cleared
 cleared_next xs j = refl
 
-pub cleared_turn : (xs : List Record) (i : ℕ) → 0 < i → cleared (removed xs i (i - 1) no_record) (i - 1) ≡ cleared xs i
+pub cleared_turn : (xs : List Record) (i : ℕ) → 0 < i → cleared (removed xs (i - 1 + 1) (i - 1) no_record) (i - 1) ≡ cleared xs i
 cleared_turn xs i h =
     let e : suc (i - 1) ≡ i = omega arith in
-    subst (λ (k : ℕ). cleared (removed xs k (i - 1) no_record) (i - 1) ≡ cleared xs k) e (cleared_next xs (i - 1))
+    rw add-one (subst (λ (k : ℕ). cleared (removed xs (suc (i - 1)) (i - 1) no_record) (i - 1) ≡ cleared xs k) e (cleared_next xs (i - 1)))
 
 pub cleared_none : (xs : List Record) (i : ℕ) → i ≡ 0 → cleared xs i ≡ xs
 unfolding cleared

@@ -82,21 +82,25 @@ fn record_at(t: Table, i: usize) -> Record
     t.rows[i]
 }
 
-// The first `n` records become zero, as if the last of them were removed again and again.
+// Removes the last of the first `n` records again and again.
 fn clear(records: &mut [Record], n: usize)
     requires { n ≤ length records.old }
     ensures { records.new ≡ cleared records.old n }
 {
-    records[..n].fill(no_record());
+    for i in (0..n).rev() {
+        remove(records, i + 1, i);
+    }
 }
 
-// The records of `t` become the first ones, as if each were inserted behind those before it.
+// Inserts each record of `t` behind those before it.
 fn fill(records: &mut [Record], t: Table)
     requires { (t.length ≤ length records.old) × (t.length ≤ 256) }
     ensures { records.new ≡ filled records.old t t.length }
 {
-    let n = t.length;
-    records[..n].copy_from_slice(&t.rows[..n]);
+    for i in 0..t.length {
+        let r = record_at(t, i);
+        insert(records, i, i, r);
+    }
 }
 
 // At most 256: more macros there cannot be.

@@ -9,7 +9,7 @@ use native.Mathlib.Omega.{arith}
 use lib.Dec.{eqb}
 use lib.ListN.{length, get_or, take, drop, drop_of_length-le, length-drop}
 use lib.Seq.{drop-cons, take-nil, take_all}
-use borrow.Author.Tests.{eqb-true, eq-eqb}
+use borrow.Author.Tests.{eqb-true, eq-eqb, ne_eqb}
 use Rattle.std.proofs.lemmas.List.{drop_min}
 use Rattle.std.specs.List.{list_any, starts_with}
 use Rattle.std.proofs.lemmas.Bool.Decides.{nat_tests}
@@ -37,6 +37,20 @@ pub holds_std : (b : ℕ) (s : List ℕ) → list_any (λ x. eqb x b) s ≡ hold
 unfolding holds
 holds_std b [] = refl
 holds_std b (x ∷ s) = rw (holds_std b s)
+
+-- how `same` goes on at the next byte
+module _ (s w : List ℕ) (i : ℕ) where
+  pub same_end : length s ≡ length w → length w ≤ i → same (drop i s) (drop i w) ≡ true
+  unfolding same
+  same_end e h = let l : length s ≤ i = omega arith in rw (drop_of_length-le s l, drop_of_length-le w h)
+
+  pub same_differ : i < length s → i < length w → (get_or s i 0 ≡ get_or w i 0 → ⊥) → same (drop i s) (drop i w) ≡ false
+  unfolding same
+  same_differ h l n = rw (drop-cons s i 0 h, drop-cons w i 0 l, ne_eqb (get_or s i 0) (get_or w i 0) n)
+
+  pub same_next : i < length s → i < length w → get_or s i 0 ≡ get_or w i 0 → same (drop i s) (drop i w) ≡ same (drop (i + 1) s) (drop (i + 1) w)
+  unfolding same
+  same_next h l e = rw (add-one i, drop-cons s i 0 h, drop-cons w i 0 l, eq-eqb (get_or s i 0) (get_or w i 0) e)
 
 -- words of two lengths differ
 pub same_length : (s w : List ℕ) → (length s ≡ length w → ⊥) → same s w ≡ false

@@ -75,19 +75,19 @@ pub fn open_input<R: Files>(files: &R, path: &[u8]) -> Option<R::File> {
     }
 }
 
-// Reads an open file to its end, behind what `out` holds, and closes it; how many bytes it has. It is Full where `most` bytes or
-// more were read, since none of the room for `most` bytes is left then.
-pub fn read_open<R: Read + Drop>(
+// Reads an open file to its end, each time at most a piece, behind what `out` holds, and closes it; how many bytes it has. It is
+// Full where `most` bytes or more were read, since none of the room for `most` bytes is left then.
+pub fn read_pieces<R: Read + Drop>(
     mut file: R,
     out: &mut Vec<u8>,
     most: usize,
+    piece: &mut [u8],
 ) -> std::result::Result<usize, Unread>
     ensures kept { StartsWith out.new.items out.old.items }
     ensures added { IfOk result (λ n. vec_len out.new ≡ vec_len out.old + n) }
     ensures room_left { IfOk result (λ n. n < most) }
     ensures most { vec_len out.new ≤ vec_len out.old + most }
 {
-    let mut piece = [0u8; 16384];
     let mut room = most;
     while room > 0 {
         let length = room.min(piece.len());
@@ -99,4 +99,19 @@ pub fn read_open<R: Read + Drop>(
         room -= n;
     }
     Err(Unread::Full)
+}
+
+// The same with a piece of its own.
+pub fn read_open<R: Read + Drop>(
+    file: R,
+    out: &mut Vec<u8>,
+    most: usize,
+) -> std::result::Result<usize, Unread>
+    ensures kept { StartsWith out.new.items out.old.items }
+    ensures added { IfOk result (λ n. vec_len out.new ≡ vec_len out.old + n) }
+    ensures room_left { IfOk result (λ n. n < most) }
+    ensures most { vec_len out.new ≤ vec_len out.old + most }
+{
+    let mut piece = [0u8; 16384];
+    read_pieces(file, out, most, &mut piece)
 }

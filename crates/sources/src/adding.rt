@@ -1,5 +1,5 @@
 // Files and start macros added: bytes into the store, entries into the tables.
-use inputs::{Unread, fail_at, open_input, read_open};
+use inputs::{Unread, fail_at, open_input, read_open, read_pieces};
 use messages::{Failure, complain};
 use plan::{FileKind, GivenFile, Sources};
 use std::io::{Input, Read};
@@ -17,6 +17,17 @@ fn complain_full(path: &[u8]) -> Failure {
     Failure::Told
 }
 
+// Reads standard input into the store. What stands there may give one message for each read and drop what a piece has no room
+// for, so the piece is as long as what the store takes.
+fn read_input<F: Read + Drop>(
+    input: F,
+    sources: &mut Sources,
+    room: usize,
+) -> Result<usize, Unread> {
+    let mut piece = vec![in *sources.store.allocator(); 0u8; room]?;
+    read_pieces(input, &mut sources.store, room, piece.as_mut_slice())
+}
+
 // Reads an open file into the store, behind its path, and enters it. Its name is the path but for its first `cut` bytes.
 fn read_in<F: Read + Drop>(
     file: F,
@@ -30,7 +41,11 @@ fn read_in<F: Read + Drop>(
     sources.append(path)?;
     let end = sources.store.len();
     let room = sources.room();
-    match read_open(file, &mut sources.store, room) {
+    let read = match kind {
+        FileKind::Input => read_input(file, sources, room),
+        _ => read_open(file, &mut sources.store, room),
+    };
+    match read {
         Ok(_) => Ok(sources.enter(kind, angled, at, end, cut)?),
         Err(Unread::Full) => Err(complain_full(part_of(sources.store.as_slice(), at, end))),
         Err(Unread::Failed(error)) => {

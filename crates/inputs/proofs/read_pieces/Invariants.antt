@@ -1,7 +1,7 @@
--- The loop of `inputs::read_open`: what stood in `out` stays in front, and what was added took the room that is gone. Assumes nothing.
+-- The loop of `inputs::read_pieces`: what stood in `out` stays in front, and what was added took the room that is gone. Assumes nothing.
 use Rattle.std.proofs.Common.{◌≤◌, ◌≡◌, ◌+◌, vec_len}
 use Rattle.std.specs.Io.{StartsWith}
-use Rattle.inputs.proofs.read_open.Given as goal
+use Rattle.inputs.proofs.read_pieces.Given as goal
 
 abbrev pub invariant-loop-room : goal.invariant-loop-room
 invariant-loop-room g l =

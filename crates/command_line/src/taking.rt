@@ -223,9 +223,13 @@ impl Taking {
         }
     }
 
+    // The folder is kept with a file only where it stands in front of its path, so no file keeps more than its path has bytes.
     fn add_file(&mut self, kind: FileKind, path: &[u8]) -> Result<(), Failure> {
+        let strip = match path.starts_with(self.strip.as_slice()) {
+            true => self.strip.clone()?,
+            false => Vec::new(self.alloc),
+        };
         let path = self.copy_of(path)?;
-        let strip = self.strip.clone()?;
         self.add(Item::File(GivenFile { kind, path, strip }))
     }
 

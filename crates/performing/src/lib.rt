@@ -6,6 +6,12 @@ use flattening::{Buffers, flatten_found};
 use messages::Failure;
 use plan::{Command, Plan, Sources};
 
+// The macros' bytes alone: text and map go before pass takes its stack.
+fn macro_bytes(buffers: Buffers) -> Vec<u8> {
+    let Buffers { bytes, .. } = buffers;
+    bytes
+}
+
 // Flattens, and answers what is asked: pass and look up where the flattening was not refused.
 pub fn perform(rt: &HostRuntime, plan: &Plan, sources: &mut Sources) -> Result<Answer, Failure> {
     let mut buffers = Buffers::new(rt.alloc())?;
@@ -14,7 +20,7 @@ pub fn perform(rt: &HostRuntime, plan: &Plan, sources: &mut Sources) -> Result<A
     if (plan.command == Command::Flatten) | (answer != Answer::Done) {
         return Ok(answer);
     }
-    answer_macros(rt, plan, buffers.bytes.as_slice(), &own.records)
+    answer_macros(rt, plan, macro_bytes(buffers).as_slice(), &own.records)
 }
 
 // The words of the one file, whatever its size.

@@ -23,8 +23,11 @@ fn run(rt: &HostRuntime, plan: &Plan, sources: &mut Sources) -> Result<Answer, F
 fn carry_out(rt: &HostRuntime, plan: &Plan) -> Result<Answer, Failure> {
     check_plan(rt, plan)?;
     let mut sources = Sources::new(rt.alloc());
-    make_entry(plan, &mut sources)?;
-    let answered = run(rt, plan, &mut sources);
+    let answered = match make_entry(plan, &mut sources) {
+        Ok(()) => run(rt, plan, &mut sources),
+        Err(Failure::Memory) => Err(Failure::Memory),
+        Err(failure) => return Err(failure),
+    };
     match answered {
         Ok(Answer::Done) => {}
         Err(Failure::Gone) => {}

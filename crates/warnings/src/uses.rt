@@ -31,6 +31,9 @@ fn given_macros<'a>(alloc: Global, plan: &'a Plan) -> Result<Vec<Given<'a>>, All
 
 fn use_name(name: &[u8], all: &mut [Given<'_>]) {
     for given in all.iter_mut() {
+        if given.used {
+            continue;
+        }
         if given.name == name {
             given.used = true;
         }

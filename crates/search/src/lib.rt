@@ -14,13 +14,13 @@ use text::part_of;
 
 // The name that an include asks for, and whether in angle brackets.
 #[derive(Clone, Copy)]
-struct Wanted<'a> {
-    angled: bool,
-    name: &'a [u8],
+pub struct Wanted<'a> {
+    pub angled: bool,
+    pub name: &'a [u8],
 }
 
 // What the include at `byte` of file `file` asks for.
-fn wanted_at(sources: &Sources, file: usize, byte: usize) -> Option<Wanted<'_>> {
+pub fn wanted_at(sources: &Sources, file: usize, byte: usize) -> Option<Wanted<'_>> {
     let body = sources.body(file);
     let t = token_at(body, byte, in_file());
     if t.kind != GRAVE {

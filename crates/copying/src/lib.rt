@@ -30,7 +30,7 @@ pub struct Cursor {
 }
 
 // Where reading and writing stand before a token that is not copied; or there is no room for one. An enum and no `Result`,
-// which is no plainer: both say where reading and writing stand, and no caller passes the second on.
+// which is no plainer: both say where reading and writing stand.
 #[derive(Clone, Copy)]
 pub enum Copied {
     Upto(Cursor, Spot, Token),
